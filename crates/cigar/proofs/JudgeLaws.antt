@@ -1,0 +1,203 @@
+-- Laws of the walk over a record's operations, and what its answers show.
+use Prim.Native.Nat.{ℕ, zero, suc, _+_, _-_, _*_, _/_, _%_, _≤_, _<_}
+use mathlib.Core.Path.{_≡_, refl, sym, ap, ap₂, _∙_}
+use mathlib.Core.List.{List, [], _∷_}
+use mathlib.Core.Bool.{Bool, true, false, cond, _&&_, not}
+use native.Mathlib.Omega.{arith}
+use lib.ListN.{length, take, drop}
+use lib.Seq.{length-take-le}
+use lib.Dec.{eqb, ltb}
+use borrow.Author.Tests.{lt-ltb, le-ltb, eq-eqb, ne-eqb, eqb-true, ltb-false}
+use Rattle.refusal.specs.declared.Refusal.{Refusal}
+use Rattle.refusal.specs.declared.Refusal.the-variants.{ReadTotal, ReferenceEnd}
+use Rattle.fields.specs.declared.Layout.{Layout}
+use Rattle.fields.specs.Number.{le}
+use Rattle.cigar.specs.declared.Kind.{Kind}
+use Rattle.cigar.specs.declared.Kind.the-variants.{Both, Reference, Read, Neither, Unknown}
+use Rattle.cigar.specs.declared.Walk.{Walk}
+use Rattle.cigar.specs.declared.Walk.the-variants.{Totals, UnknownCode, ZeroLength}
+use Rattle.cigar.specs.declared.Operations.{Operations}
+use Rattle.cigar.specs.declared.Operations.the-variants as Ops
+use Rattle.cigar.specs.declared.Span.{Span}
+use Rattle.cigar.specs.declared.Span.the-variants as Spans
+use Rattle.fields.specs.declared.RefPos.{RefPos}
+use Rattle.cigar.specs.Operation.{kindOf, kind, len, readLen, refLen, readOf, refOf, readSum, refSum, opsOf, operations}
+use Rattle.cigar.specs.Judge.{onKind, onLength, faultOr, walkOf, judged, operationsOf, spanOf}
+use Rattle.fields.proofs.Arith.{lt-or-le}
+use Rattle.cigar.proofs.PlaceLaws.{kind-bad, ops-step, ops-short}
+use Rattle.cigar.proofs.CursorLaws.{le-take}
+
+known-kind : (c : ℕ) (x : Walk) → c ≤ 8 → onKind (kindOf c) x ≡ x
+known-kind zero x h = refl
+known-kind (suc zero) x h = refl
+known-kind (suc (suc zero)) x h = refl
+known-kind (suc (suc (suc zero))) x h = refl
+known-kind (suc (suc (suc (suc zero)))) x h = refl
+known-kind (suc (suc (suc (suc (suc zero))))) x h = refl
+known-kind (suc (suc (suc (suc (suc (suc zero)))))) x h = refl
+known-kind (suc (suc (suc (suc (suc (suc (suc zero))))))) x h = refl
+known-kind (suc (suc (suc (suc (suc (suc (suc (suc zero)))))))) x h = refl
+known-kind (suc (suc (suc (suc (suc (suc (suc (suc (suc n))))))))) x h = absurd (omega arith)
+
+some-length : (m : ℕ) (x : Walk) → (m ≡ 0 → ⊥) → onLength m x ≡ x
+some-length zero x h = absurd (h refl)
+some-length (suc m) x h = refl
+
+-- what the walk has left to say at byte `at`, with so much used before it
+abbrev pub fromHere : List ℕ → ℕ → ℕ → Walk
+fromHere ops q r = faultOr ops (Totals (q + readSum ops) (r + refSum ops))
+
+pub record Walking (l : List ℕ) (from end at q r : ℕ) : Type 0 where
+  pub low : at ≤ end
+  pub reads : q ≤ at * 268435456
+  pub refs : r ≤ at * 268435456
+  pub left : fromHere (operations at end l) q r ≡ walkOf (operations from end l)
+
+totals-as : (ops : List ℕ) (a b c d : ℕ) → a ≡ b → c ≡ d → faultOr ops (Totals a c) ≡ faultOr ops (Totals b d)
+totals-as ops a b c d e f = ap₂ (λ (x y : ℕ). faultOr ops (Totals x y)) e f
+
+module _ (l : List ℕ) (from end : ℕ) (fits : end ≤ length l) where
+  pub walking-start : from ≤ end → Walking l from end from 0 0
+  walking-start h =
+      let ops = operations from end l in
+      record { low = h; reads = omega arith; refs = omega arith; left = totals-as ops _ _ _ _ (omega arith) (omega arith) }
+
+  module _ (at q r : ℕ) (h : Walking l from end at q r) where
+    long : length (take end l) ≡ end
+    long = length-take-le end l fits
+
+    pub walking-end : end - at < 4 → Totals q r ≡ walkOf (operations from end l)
+    unfolding faultOr readSum refSum
+    walking-end k =
+        let none : operations at end l ≡ [] = ops-short (take end l) at (omega (arith, long)) in
+        ap₂ Totals (omega arith) (omega arith) ∙ (rw none at (h .left))
+
+    module _ (w : ℕ) (more : at + 4 ≤ end) (is : w ≡ le 4 l at) where
+      rest : List ℕ
+      rest = operations (at + 4) end l
+
+      split : operations at end l ≡ w ∷ operations (at + 4) end l
+      split = ops-step (take end l) at (omega (arith, long)) ∙ ap (λ (x : ℕ). x ∷ operations (at + 4) end l) (le-take 4 l end at more ∙ sym is)
+
+      next : onKind (kind w) (onLength (len w) (fromHere (operations (at + 4) end l) (q + readLen w) (r + refLen w))) ≡ walkOf (operations from end l)
+      unfolding faultOr readSum refSum
+      next =
+          ap (λ (x : Walk). onKind (kind w) (onLength (len w) x)) (totals-as (operations (at + 4) end l) _ _ _ _ (omega arith) (omega arith))
+          ∙ (rw split at (h .left))
+
+      pub walking-code : 8 < w % 16 → UnknownCode ≡ walkOf (operations from end l)
+      walking-code k = (rw (kind-bad (w % 16) k) at next)
+
+      pub walking-zero : w % 16 ≤ 8 → w / 16 ≡ 0 → ZeroLength ≡ walkOf (operations from end l)
+      walking-zero k e = sym (known-kind (w % 16) _ k ∙ ap (λ (x : ℕ). onLength x (fromHere (operations (at + 4) end l) (q + readLen w) (r + refLen w))) e) ∙ next
+
+      pub walking-turn : (k : Kind) (a b : ℕ) → k ≡ kindOf (w % 16) → w < 4294967296 → w % 16 ≤ 8 → (w / 16 ≡ 0 → ⊥) → (a ≡ readOf k (w / 16)) × (a ≤ w / 16)
+          → (b ≡ refOf k (w / 16)) × (b ≤ w / 16) → Walking l from end (at + 4) (q + a) (r + b)
+      walking-turn k a b ek hw hc hm ha hb =
+          let fa : a ≡ readLen w = ha .0 ∙ ap (λ (x : Kind). readOf x (w / 16)) ek in
+          let fb : b ≡ refLen w = hb .0 ∙ ap (λ (x : Kind). refOf x (w / 16)) ek in
+          record {
+            low = more;
+            reads = omega (arith, h .reads, ha .1);
+            refs = omega (arith, h .refs, hb .1);
+            left = rw (fa, fb) (sym (known-kind (w % 16) _ hc ∙ some-length (w / 16) _ hm) ∙ next);
+          }
+
+-- ---- what is judged of the walk's answer
+module _ (y : Layout) (l : List ℕ) (place : ℕ) where
+  abbrev pub opsIn : List ℕ
+  opsIn = operations (y .operations) (y .bases) l
+
+  pub judged-as : (w w′ : Walk) → w ≡ walkOf opsIn → w ≡ w′ → judged (y .count) (length opsIn) place w′ ≡ operationsOf y l place
+  unfolding operationsOf
+  judged-as w w′ e f = ap (judged (y .count) (length opsIn) place) (sym f ∙ e)
+
+  and-false : (b : Bool) → b && false ≡ false
+  and-false true = refl
+  and-false false = refl
+
+  module _ (q r : ℕ) (w : Walk) (e : w ≡ walkOf opsIn) (f : w ≡ Totals q r) where
+    pub judged-empty : y .count ≡ 0 → Ops.Uses r ≡ operationsOf y l place
+    judged-empty h = (rw (le-ltb 0 (y .count) (omega arith)) at (judged-as w (Totals q r) e f))
+
+    pub judged-none : y .bases ≤ length l → y .bases - y .operations < 4 → Ops.Uses r ≡ operationsOf y l place
+    judged-none h k =
+        let long = length-take-le (y .bases) l h in
+        let none : opsIn ≡ [] = ops-short (take (y .bases) l) (y .operations) (omega (arith, long)) in
+        let short : ltb 0 (length opsIn) ≡ false = ap (λ (o : List ℕ). ltb 0 (length o)) none in
+        (rw (short, and-false (ltb 0 (y .count))) at (judged-as w (Totals q r) e f))
+
+    pub judged-total : q ≡ y .count → Ops.Uses r ≡ operationsOf y l place
+    judged-total h =
+        (rw (eq-eqb q (y .count) h, and-false (ltb 0 (y .count) && ltb 0 (length opsIn))) at (judged-as w (Totals q r) e f))
+
+    pub judged-wrong : (y .count ≡ 0 → ⊥) → y .bases ≤ length l → 4 ≤ y .bases - y .operations → (q ≡ y .count → ⊥) → Ops.Refused (ReadTotal place) ≡ operationsOf y l place
+    judged-wrong hc hl hn h =
+        let long = length-take-le (y .bases) l hl in
+        let one = ops-step (take (y .bases) l) (y .operations) (omega (arith, long)) in
+        let some : ltb 0 (length opsIn) ≡ true = lt-ltb 0 (length opsIn) (omega (arith, ap length one)) in
+        (rw (lt-ltb 0 (y .count) (omega arith), some, ne-eqb q (y .count) h) at (judged-as w (Totals q r) e f))
+
+  -- ---- what an answer that is no refusal shows
+  through-kind : (k : Kind) (x : Walk) (q r : ℕ) → onKind k x ≡ Totals q r → x ≡ Totals q r
+  through-kind Both x q r e = e
+  through-kind Reference x q r e = e
+  through-kind Read x q r e = e
+  through-kind Neither x q r e = e
+  through-kind Unknown x q r e = let z : _≡_ {A = ℕ} 0 1 = cc in absurd (omega arith)
+
+  through-length : (n : ℕ) (x : Walk) (q r : ℕ) → onLength n x ≡ Totals q r → x ≡ Totals q r
+  through-length zero x q r e = let z : _≡_ {A = ℕ} 0 1 = cc in absurd (omega arith)
+  through-length (suc n) x q r e = e
+
+  good-totals : (ops : List ℕ) (good : Walk) (q r : ℕ) → faultOr ops good ≡ Totals q r → good ≡ Totals q r
+  unfolding faultOr
+  good-totals [] good q r e = e
+  good-totals (w ∷ ws) good q r e = good-totals ws good q r (through-length (len w) _ q r (through-kind (kind w) _ q r e))
+
+  pub record Used (uses : ℕ) : Type 0 where
+    pub reference : uses ≡ refSum opsIn
+    pub read : 0 < y .count → readSum opsIn ≤ y .count
+
+  pub good-uses : (uses : ℕ) → operationsOf y l place ≡ Ops.Uses uses → Used uses
+  unfolding operationsOf readSum
+  good-uses uses e = go (walkOf opsIn) refl e
+    where
+      total : (q r : ℕ) → Totals (readSum opsIn) (refSum opsIn) ≡ Totals q r → (ops : List ℕ) → ops ≡ opsIn
+          → (s t u : Bool) → ltb 0 (y .count) ≡ s → ltb 0 (length ops) ≡ t → eqb q (y .count) ≡ u
+          → cond (s && t && not u) (Ops.Refused (ReadTotal place)) (Ops.Uses r) ≡ Ops.Uses uses → Used uses
+      total q r f ops eo true true true es et eu g =
+          let a : refSum opsIn ≡ r = cc in
+          let b : readSum opsIn ≡ q = cc in
+          let c : r ≡ uses = cc in
+          record { reference = omega arith; read = λ h. omega (arith, eqb-true q (y .count) eu) }
+      total q r f ops eo true true false es et eu g = let z : _≡_ {A = ℕ} 0 1 = cc in absurd (omega arith)
+      total q r f [] eo true false u es et eu g =
+          let a : refSum opsIn ≡ r = cc in
+          let c : r ≡ uses = cc in
+          let d : readSum opsIn ≡ 0 = ap readSum (sym eo) in
+          record { reference = omega arith; read = λ h. omega arith }
+      total q r f (x ∷ ops) eo true false u es et eu g = absurd (omega (arith, ltb-false 0 (suc (length ops)) et))
+      total q r f ops eo false t u es et eu g =
+          let a : refSum opsIn ≡ r = cc in
+          let c : r ≡ uses = cc in
+          record { reference = omega arith; read = λ h. absurd (omega (arith, ltb-false 0 (y .count) es)) }
+
+      go : (w : Walk) → walkOf opsIn ≡ w → judged (y .count) (length opsIn) place w ≡ Ops.Uses uses → Used uses
+      go (Totals q r) f g = total q r (good-totals opsIn _ q r f) opsIn refl (ltb 0 (y .count)) (ltb 0 (length opsIn)) (eqb q (y .count)) refl refl refl g
+      go UnknownCode f g = let z : _≡_ {A = ℕ} 0 1 = cc in absurd (omega arith)
+      go ZeroLength f g = let z : _≡_ {A = ℕ} 0 1 = cc in absurd (omega arith)
+
+pub record Started (pos uses : ℕ) (start : RefPos) : Type 0 where
+  pub first : start .0 ≡ pos + 1
+  pub last : pos + uses ≤ 2147483646
+
+pub good-span : (pos uses place : ℕ) (start : RefPos) → spanOf pos uses place ≡ Spans.Starts start → Started pos uses start
+unfolding spanOf
+good-span pos uses place start e = go (ltb 2147483646 (pos + uses)) refl e
+  where
+    go : (t : Bool) → ltb 2147483646 (pos + uses) ≡ t → cond t (Spans.Refused (ReferenceEnd place)) (Spans.Starts (record { 0 = pos + 1 })) ≡ Spans.Starts start → Started pos uses start
+    go true f g = let z : _≡_ {A = ℕ} 0 1 = cc in absurd (omega arith)
+    go false f g =
+        let s : record { 0 = pos + 1 } ≡ start = cc in
+        record { first = sym (ap (λ (p : RefPos). p .0) s); last = ltb-false 2147483646 (pos + uses) f }

@@ -1,0 +1,4 @@
+pub mod PlaceLaws
+pub mod SitsLaws
+pub mod CursorLaws
+pub mod JudgeLaws

@@ -1,0 +1,77 @@
+-- Laws of runs and operations.
+use Prim.Native.Nat.{ℕ, zero, suc, _+_, _-_, _*_, _/_, _%_, _≤_, _<_}
+use mathlib.Core.Path.{_≡_, refl, sym, ap, ap₂, _∙_}
+use mathlib.Core.List.{List, [], _∷_, _++_}
+use mathlib.Core.Option.{Option, none, some}
+use mathlib.Core.Bool.{Bool, true, false, cond}
+use mathlib.Core.Logic.{_⊎_, inl, inr, ⊎-elim}
+use native.Mathlib.Omega.{arith}
+use native.Mathlib.Numerals.{add-one, add-two, add-three, add-four}
+use native.Mathlib.Nat.{zero-add, add-zero, suc-add}
+use lib.ListN.{length, getD, take, drop, length-drop, List·getD-eq-default}
+use lib.Seq.{drop-cons}
+use lib.Dec.{ltb, leb}
+use borrow.Author.Tests.{lt-ltb, le-ltb, le-leb, lt-leb}
+use Rattle.cigar.specs.declared.Kind.{Kind}
+use Rattle.cigar.specs.declared.Kind.the-variants.{Both, Reference, Read, Neither, Unknown}
+use Rattle.cigar.specs.Operation.{kindOf, kind, len, readLen, refLen, readOf, refOf, readSum, refSum, opsOf}
+use Rattle.cigar.specs.Place.{runAt, opAt, offAt}
+use Rattle.fields.specs.Number.{le}
+use Rattle.fields.proofs.Arith.{lt-or-le}
+
+-- ---- a run
+pub run-below : (n q r p : ℕ) (x : Option ℕ) → p < r → runAt n q r p x ≡ x
+run-below n q r p x h = simp (lt-leb r p h)
+
+pub run-in : (n q r p : ℕ) (x : Option ℕ) → r ≤ p → p < r + n → runAt n q r p x ≡ some (q + (p - r))
+run-in n q r p x h k = simp (le-leb r p h, lt-ltb p (r + n) k)
+
+pub run-past : (n q r p : ℕ) (x : Option ℕ) → r + n ≤ p → runAt n q r p x ≡ x
+run-past n q r p x h =
+    let k : r ≤ p = omega arith in
+    simp (le-leb r p k, le-ltb p (r + n) h)
+
+pub run-zero : (q r p : ℕ) (x : Option ℕ) → runAt 0 q r p x ≡ x
+run-zero q r p x =
+    ⊎-elim (λ h. run-below 0 q r p x h)
+    (λ h. run-past 0 q r p x (omega arith))
+    (lt-or-le p r)
+
+-- an operation leaves a position below it to what follows
+op-below : (k : Kind) (n q r p : ℕ) (x : Option ℕ) → p < r → opAt k n q r p x ≡ x
+op-below Both n q r p x h = run-below n q r p x h
+op-below Reference n q r p x h = refl
+op-below Read n q r p x h = refl
+op-below Neither n q r p x h = refl
+op-below Unknown n q r p x h = refl
+
+pub off-below : (ops : List ℕ) (q r p : ℕ) → p < r → offAt ops q r p ≡ none
+unfolding offAt
+off-below [] q r p h = refl
+off-below (w ∷ ws) q r p h =
+    op-below (kind w) (len w) q r p _ h ∙ off-below ws (q + readLen w) (r + refLen w) p (omega arith)
+
+-- ---- the operations of a list of bytes
+pub kind-bad : (c : ℕ) → 9 ≤ c → kindOf c ≡ Unknown
+kind-bad c h = List·getD-eq-default (Both ∷ Read ∷ Reference ∷ Reference ∷ Read ∷ Neither ∷ Neither ∷ Both ∷ Both ∷ []) Unknown h
+
+pub ops-step : (l : List ℕ) (at : ℕ) → at + 4 ≤ length l → opsOf (drop at l) ≡ le 4 l at ∷ opsOf (drop (at + 4) l)
+unfolding opsOf le
+ops-step l at h =
+    let h0 : at < length l = omega arith in
+    let h1 : suc at < length l = omega arith in
+    let h2 : suc (suc at) < length l = omega arith in
+    let h3 : suc (suc (suc at)) < length l = omega arith in
+    simp (add-one, add-four)
+    (rw (drop-cons l at 0 h0, drop-cons l (suc at) 0 h1, drop-cons l (suc (suc at)) 0 h2, drop-cons l (suc (suc (suc at))) 0 h3))
+
+ops-few : (l : List ℕ) → length l < 4 → opsOf l ≡ []
+unfolding opsOf
+ops-few [] h = refl
+ops-few (a ∷ []) h = refl
+ops-few (a ∷ b ∷ []) h = refl
+ops-few (a ∷ b ∷ c ∷ []) h = refl
+ops-few (a ∷ b ∷ c ∷ d ∷ r) h = absurd (omega arith)
+
+pub ops-short : (l : List ℕ) (at : ℕ) → length l - at < 4 → opsOf (drop at l) ≡ []
+ops-short l at h = ops-few (drop at l) (rw length-drop h)

@@ -1,0 +1,109 @@
+-- `cigar::walk_operations` meets its contract. Assumes nothing.
+use Prim.Native.Nat.{_-_}
+use denote.Ref.{now}
+use Rattle.cigar.proofs.JudgeLaws.{Walking, walking-start, walking-end, walking-code, walking-zero, walking-turn}
+use borrow.Author.Needs.{needs}
+use native.Mathlib.Omega.{arith}
+use Rattle.cigar.proofs.walk_operations.Statement.{statement}
+use Rattle.cigar.proofs.walk_operations.Tie as tie
+
+abbrev Inv-loop : tie.InvT-loop
+Inv-loop s from end at₀ read₀ reference₀ at read reference = Walking s from end at read reference
+
+abbrev μ-loop : tie.MeasureT-loop
+μ-loop s from end at₀ read₀ reference₀ at read reference = end - at
+
+loop-holds : tie.Need-loop-holds Inv-loop μ-loop
+loop-holds c = walking-start (now (c .before .args .s)) (c .before .args .from) (c .before .args .end) (c .before .pre .1) (c .before .pre .0)
+
+sub-loop : tie.Need-sub-loop Inv-loop μ-loop
+sub-loop c = omega (arith, c .loop .inv .low)
+
+operation-at-requires : tie.Need-operation-at-requires Inv-loop μ-loop
+operation-at-requires c κs = omega arith
+
+returns : tie.Need-returns Inv-loop μ-loop
+returns c =
+    let by-operation-at = c .before in
+    let turn = by-operation-at .before .before in
+    let entry = turn .before .before in
+    let args = entry .args in
+    let loop = turn .loop in
+    walking-code (now (args .s)) (args .from) (args .end) (entry .pre .1) (loop .at) (loop .read) (loop .reference) (loop .inv) (by-operation-at .operation-at .result) (omega arith) (by-operation-at .operation-at .ensures .0) (c .if1 .taken)
+
+returns-2 : tie.Need-returns-2 Inv-loop μ-loop
+returns-2 c =
+    let by-if1 = c .before in
+    let by-operation-at = by-if1 .before in
+    let turn = by-operation-at .before .before in
+    let entry = turn .before .before in
+    let args = entry .args in
+    let loop = turn .loop in
+    walking-zero (now (args .s)) (args .from) (args .end) (entry .pre .1) (loop .at) (loop .read) (loop .reference) (loop .inv) (by-operation-at .operation-at .result) (omega arith) (by-operation-at .operation-at .ensures .0) (by-if1 .if1 .left) (c .if2 .taken)
+
+kind-of-requires : tie.Need-kind-of-requires Inv-loop μ-loop
+kind-of-requires c κs = search needs
+
+read-of-requires : tie.Need-read-of-requires Inv-loop μ-loop
+read-of-requires c κs = search needs
+
+add-read : tie.Need-add-read Inv-loop μ-loop
+add-read c =
+    let turn = c .before .before .before .before .before .before in
+    omega (arith, turn .loop .inv .reads, c .read-of .ensures .1)
+
+ref-of-requires : tie.Need-ref-of-requires Inv-loop μ-loop
+ref-of-requires c κs = search needs
+
+add-reference : tie.Need-add-reference Inv-loop μ-loop
+add-reference c =
+    let turn = c .before .before .before .before .before .before .before in
+    omega (arith, turn .loop .inv .refs, c .ref-of .ensures .1)
+
+add-at : tie.Need-add-at Inv-loop μ-loop
+add-at c = omega arith
+
+loop-less : tie.Need-loop-less Inv-loop μ-loop
+loop-less c = omega arith
+
+loop-again : tie.Need-loop-again Inv-loop μ-loop
+loop-again c =
+    let by-read-of = c .before in
+    let by-kind-of = by-read-of .before in
+    let by-if2 = by-kind-of .before in
+    let by-if1 = by-if2 .before in
+    let by-operation-at = by-if1 .before in
+    let turn = by-operation-at .before .before in
+    let entry = turn .before .before in
+    let args = entry .args in
+    let loop = turn .loop in
+    walking-turn (now (args .s)) (args .from) (args .end) (entry .pre .1) (loop .at) (loop .read) (loop .reference) (loop .inv) (by-operation-at .operation-at .result) (omega arith) (by-operation-at .operation-at .ensures .0) (by-kind-of .kind-of .result) (by-read-of .read-of .result) (c .ref-of .result) (by-kind-of .kind-of .ensures) (by-operation-at .operation-at .ensures .1) (by-if1 .if1 .left) (by-if2 .if2 .left) (by-read-of .read-of .ensures) (c .ref-of .ensures)
+
+returns-3 : tie.Need-returns-3 Inv-loop μ-loop
+returns-3 c =
+    let turn = c .before in
+    let entry = turn .before .before in
+    let args = entry .args in
+    let loop = turn .loop in
+    walking-end (now (args .s)) (args .from) (args .end) (entry .pre .1) (loop .at) (loop .read) (loop .reference) (loop .inv) (omega arith)
+
+pub walk-operations-spec : {M : Type 1} → statement M
+walk-operations-spec =
+    tie.close
+    (tie.spec
+    Inv-loop
+    μ-loop
+    loop-holds
+    sub-loop
+    operation-at-requires
+    returns
+    returns-2
+    kind-of-requires
+    read-of-requires
+    add-read
+    ref-of-requires
+    add-reference
+    add-at
+    loop-less
+    loop-again
+    returns-3)

@@ -1,0 +1,50 @@
+-- A record's operations judged: refusals 5 to 8.
+use Prim.Native.Nat.{ℕ, zero, suc, _+_}
+use mathlib.Core.List.{List, [], _∷_}
+use mathlib.Core.Bool.{Bool, cond, _&&_, not}
+use lib.ListN.{length}
+use lib.Dec.{eqb, ltb}
+use Rattle.refusal.specs.declared.Refusal.the-variants.{OperationCode, OperationLength, ReadTotal, ReferenceEnd}
+use Rattle.fields.specs.declared.Layout.{Layout}
+use Rattle.cigar.specs.declared.Kind.{Kind}
+use Rattle.cigar.specs.declared.Kind.the-variants.{Both, Reference, Read, Neither, Unknown}
+use Rattle.cigar.specs.declared.Walk.{Walk}
+use Rattle.cigar.specs.declared.Walk.the-variants.{Totals, UnknownCode, ZeroLength}
+use Rattle.cigar.specs.declared.Operations.{Operations}
+use Rattle.cigar.specs.declared.Operations.the-variants as Ops
+use Rattle.cigar.specs.declared.Span.{Span}
+use Rattle.cigar.specs.declared.Span.the-variants as Spans
+use Rattle.cigar.specs.Operation.{kind, len, readSum, refSum, operations}
+
+-- at an operation its code comes before its length; then what follows it
+abbrev pub onKind : Kind → Walk → Walk
+onKind Both rest = rest
+onKind Reference rest = rest
+onKind Read rest = rest
+onKind Neither rest = rest
+onKind Unknown rest = UnknownCode
+
+abbrev pub onLength : ℕ → Walk → Walk
+onLength zero rest = ZeroLength
+onLength (suc n) rest = rest
+
+-- the first faulty operation; where there is none, `good`
+unfoldable pub faultOr : List ℕ → Walk → Walk
+faultOr [] good = good
+faultOr (op ∷ ops) good = onKind (kind op) (onLength (len op) (faultOr ops good))
+
+abbrev pub walkOf : List ℕ → Walk
+walkOf ops = faultOr ops (Totals (readSum ops) (refSum ops))
+
+-- 5 and 6; then 7: bases and operations are there, and the lengths on the read don't total l_seq
+abbrev pub judged : ℕ → ℕ → ℕ → Walk → Operations
+judged count n place (Totals read reference) = cond (ltb 0 count && ltb 0 n && not (eqb read count)) (Ops.Refused (ReadTotal place)) (Ops.Uses reference)
+judged count n place UnknownCode = Ops.Refused (OperationCode place)
+judged count n place ZeroLength = Ops.Refused (OperationLength place)
+
+unfoldable pub operationsOf : Layout → List ℕ → ℕ → Operations
+operationsOf y s place = judged (y .count) (length (operations (y .operations) (y .bases) s)) place (walkOf (operations (y .operations) (y .bases) s))
+
+-- 8; the first base's position is counted from 1
+unfoldable pub spanOf : ℕ → ℕ → ℕ → Span
+spanOf pos uses place = cond (ltb 2147483646 (pos + uses)) (Spans.Refused (ReferenceEnd place)) (Spans.Starts (record { 0 = pos + 1 }))

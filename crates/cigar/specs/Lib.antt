@@ -1,0 +1,4 @@
+pub mod Operation
+pub mod Judge
+pub mod Place
+pub mod Passing

@@ -1,0 +1,267 @@
+// The operations of an alignment: what each uses, the refusals 5 to 8, and a cursor over the bases
+// that sit on the reference.
+use fields::Layout;
+use fields::ReadOffset;
+use fields::RefPos;
+use refusal::Refusal;
+ghost use mathlib.Core.Path.{_≡_};
+ghost use Prim.Native.Nat.{_+_, _≤_, _<_};
+ghost use lib.ListN.{length, take};
+ghost use Rattle.fields.specs.Number.{le};
+ghost use Rattle.fields.specs.Check.{Lies};
+ghost use Rattle.cigar.specs.Operation.{kindOf, readOf, refOf, operations};
+ghost use Rattle.cigar.specs.Judge.{walkOf, operationsOf, spanOf};
+ghost use Rattle.cigar.specs.Passing.{tookOperation, advanced, Stands, Settled};
+
+// What an operation uses: read and reference, one of them, or neither. No operation has a code
+// above 8.
+pub enum Kind {
+    Both,
+    Reference,
+    Read,
+    Neither,
+    Unknown,
+}
+
+// A place in an alignment: the next `left` bases, from `offset` on, sit at the positions from
+// `position` on; `at` is the byte at which the operation after them begins.
+pub struct Cursor {
+    pub at: usize,
+    pub offset: ReadOffset,
+    pub position: RefPos,
+    pub left: usize,
+}
+
+// The first faulty operation, or how much of the read and of the reference all of them use.
+pub enum Walk {
+    Totals(usize, usize),
+    UnknownCode,
+    ZeroLength,
+}
+
+// A record's operations judged: how much of the reference they use, or the refusal.
+pub enum Operations {
+    Uses(usize),
+    Refused(Refusal),
+}
+
+// Where an alignment starts, or the refusal of one that ends too late.
+pub enum Span {
+    Starts(RefPos),
+    Refused(Refusal),
+}
+
+// Codes 0 to 8 are M I D N S H P = X.
+pub fn kind_of(code: usize) -> Kind
+    ensures { λ r. ⌜ r ≡ kindOf code ⌝ }
+{
+    if code == 0 {
+        return Kind::Both;
+    }
+    if code == 1 {
+        return Kind::Read;
+    }
+    if code == 2 {
+        return Kind::Reference;
+    }
+    if code == 3 {
+        return Kind::Reference;
+    }
+    if code == 4 {
+        return Kind::Read;
+    }
+    if code == 5 {
+        return Kind::Neither;
+    }
+    if code == 6 {
+        return Kind::Neither;
+    }
+    if code == 7 {
+        return Kind::Both;
+    }
+    if code == 8 {
+        return Kind::Both;
+    }
+    Kind::Unknown
+}
+
+// How much of the read an operation of this kind and length uses.
+pub fn read_of(k: Kind, n: usize) -> usize
+    ensures { λ r. ⌜ (r ≡ readOf k n) × (r ≤ n) ⌝ }
+{
+    match k {
+        Kind::Both => n,
+        Kind::Reference => 0,
+        Kind::Read => n,
+        Kind::Neither => 0,
+        Kind::Unknown => 0,
+    }
+}
+
+// How much of the reference it uses.
+pub fn ref_of(k: Kind, n: usize) -> usize
+    ensures { λ r. ⌜ (r ≡ refOf k n) × (r ≤ n) ⌝ }
+{
+    match k {
+        Kind::Both => n,
+        Kind::Reference => n,
+        Kind::Read => 0,
+        Kind::Neither => 0,
+        Kind::Unknown => 0,
+    }
+}
+
+// The operation at a byte: its length times 16, and its code.
+fn operation_at(s: &[u8], at: usize) -> usize
+    requires { ⌜ at + 4 ≤ length (now s) ⌝ }
+    ensures { λ r. ⌜ (r ≡ le 4 (now (s .entry)) at) × (r < 4294967296) ⌝ }
+{
+    fields::u32_at(s, at) as usize
+}
+
+// The operations between two bytes, front to back, at each its code before its length.
+fn walk_operations(s: &[u8], from: usize, end: usize) -> Walk
+    requires { ⌜ (from ≤ end) × (end ≤ length (now s)) × (length (now s) ≤ 65536) ⌝ }
+    ensures { λ r. ⌜ r ≡ walkOf (operations from end (now (s .entry))) ⌝ }
+{
+    let mut at = from;
+    let mut read = 0;
+    let mut reference = 0;
+    while 4 <= end - at {
+        let w = operation_at(s, at);
+        let code = w % 16;
+        let n = w / 16;
+        if 8 < code {
+            return Walk::UnknownCode;
+        }
+        if n == 0 {
+            return Walk::ZeroLength;
+        }
+        let k = kind_of(code);
+        read += read_of(k, n);
+        reference += ref_of(k, n);
+        at += 4;
+    }
+    Walk::Totals(read, reference)
+}
+
+// Refusals 5 to 7 of a record with this layout.
+pub fn check_operations(s: &[u8], y: Layout, place: u16) -> Operations
+    requires { ⌜ Lies y (length (now s)) × (length (now s) ≤ 65536) ⌝ }
+    ensures { λ r. ⌜ r ≡ operationsOf y (now (s .entry)) place ⌝ }
+{
+    let from = y.operations;
+    let end = y.bases;
+    let w = walk_operations(s, from, end);
+    match w {
+        Walk::UnknownCode => Operations::Refused(Refusal::OperationCode(place)),
+        Walk::ZeroLength => Operations::Refused(Refusal::OperationLength(place)),
+        Walk::Totals(read, reference) => {
+            let count = y.count;
+            if count == 0 {
+                return Operations::Uses(reference);
+            }
+            if end - from < 4 {
+                return Operations::Uses(reference);
+            }
+            if read == count {
+                return Operations::Uses(reference);
+            }
+            Operations::Refused(Refusal::ReadTotal(place))
+        }
+    }
+}
+
+// Refusal 8 of an alignment that uses so much of the reference from `pos` on, counted from 0.
+pub fn check_span(pos: u32, uses: usize, place: u16) -> Span
+    ensures { λ r. ⌜ r ≡ spanOf pos uses place ⌝ }
+{
+    let start = pos as usize;
+    if 2147483646 < start {
+        return Span::Refused(Refusal::ReferenceEnd(place));
+    }
+    if 2147483646 - start < uses {
+        return Span::Refused(Refusal::ReferenceEnd(place));
+    }
+    Span::Starts(RefPos(start + 1))
+}
+
+// The cursor past the operation at hand, which lies before `end`.
+fn take_operation(s: &[u8], end: usize, c: Cursor) -> Cursor
+    requires { ⌜ (end ≤ length (now s)) × (c .at + 4 ≤ end) × (c .left ≡ 0) × Stands (take end (now s)) c ⌝ }
+    ensures { λ r. ⌜ r ≡ tookOperation (take end (now (s .entry))) c ⌝ }
+{
+    let at = c.at;
+    let w = operation_at(s, at);
+    let n = w / 16;
+    let k = kind_of(w % 16);
+    match k {
+        Kind::Both => Cursor {
+            at: at + 4,
+            offset: ReadOffset(c.offset.0),
+            position: RefPos(c.position.0),
+            left: n,
+        },
+        Kind::Reference => Cursor {
+            at: at + 4,
+            offset: ReadOffset(c.offset.0),
+            position: RefPos(c.position.0 + n),
+            left: 0,
+        },
+        Kind::Read => Cursor {
+            at: at + 4,
+            offset: ReadOffset(c.offset.0 + n),
+            position: RefPos(c.position.0),
+            left: 0,
+        },
+        Kind::Neither => Cursor {
+            at: at + 4,
+            offset: ReadOffset(c.offset.0),
+            position: RefPos(c.position.0),
+            left: 0,
+        },
+        Kind::Unknown => Cursor {
+            at: at + 4,
+            offset: ReadOffset(c.offset.0),
+            position: RefPos(c.position.0),
+            left: 0,
+        },
+    }
+}
+
+// The cursor with a base at hand, unless there is none left.
+pub fn settle(s: &[u8], end: usize, c: Cursor) -> Cursor
+    requires { ⌜ (end ≤ length (now s)) × Stands (take end (now s)) c ⌝ }
+    ensures { λ r. ⌜ Settled (take end (now (s .entry))) c r ⌝ }
+{
+    let mut cur = c;
+    while cur.left == 0 {
+        let at = cur.at;
+        if end - at < 4 {
+            return cur;
+        }
+        cur = take_operation(s, end, cur);
+    }
+    cur
+}
+
+// The cursor with `d` bases of its run passed.
+fn advance(c: Cursor, d: usize) -> Cursor
+    requires { ⌜ (d ≤ c .left) × (c .offset .0 + c .left ≤ 4294967296) × (c .position .0 + c .left ≤ 4294967296) ⌝ }
+    ensures { λ r. ⌜ r ≡ advanced c d ⌝ }
+{
+    Cursor {
+        at: c.at,
+        offset: ReadOffset(c.offset.0 + d),
+        position: RefPos(c.position.0 + d),
+        left: c.left - d,
+    }
+}
+
+// The cursor with `d` bases passed and a base at hand, unless there is none left.
+pub fn pass(s: &[u8], end: usize, c: Cursor, d: usize) -> Cursor
+    requires { ⌜ (end ≤ length (now s)) × Stands (take end (now s)) c × (d ≤ c .left) ⌝ }
+    ensures { λ r. ⌜ Settled (take end (now (s .entry))) (advanced c d) r ⌝ }
+{
+    settle(s, end, advance(c, d))
+}

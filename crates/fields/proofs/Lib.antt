@@ -1,0 +1,4 @@
+pub mod Arith
+pub mod NumberLaws
+pub mod PlacedLaws
+pub mod CheckLaws

@@ -1,0 +1,137 @@
+// Two sound records judged by the order of judgement, steps 4 to 7, and treated where they share
+// positions.
+use cigar::Operations;
+use cigar::Span;
+use fields::Layout;
+use fields::Placed;
+use fields::RefPos;
+use merge::Met;
+use refusal::Refusal;
+use stats::CorrectionStats;
+use strategy::Strategies;
+ghost use mathlib.Core.Path.{_≡_};
+ghost use Prim.Native.Nat.{ℕ};
+ghost use Rattle.fields.specs.Check.{Sound};
+ghost use Rattle.stats.specs.Counts.{Room};
+ghost use Rattle.positions.specs.Step.{state, job};
+ghost use Rattle.judgement.specs.Judgement.{onUses, onSpan, spanIn, mappedOf, judgedOf, Ready, TreatedTo};
+
+// Two sound records judged: refused, apart for what their headers say, or both placed on one
+// reference, each from its first position on.
+pub enum Judged {
+    Refused(Refusal),
+    Apart,
+    Both(RefPos, RefPos),
+}
+
+// The refusal of operations, as the answer of a span.
+fn unspanned(o: Operations) -> Span
+    ensures { λ r. ⌜ r ≡ onUses o (λ (n : ℕ). Span.Starts (record { 0 = 0 })) ⌝ }
+{
+    match o {
+        Operations::Uses(_) => Span::Starts(RefPos(0)),
+        Operations::Refused(r) => Span::Refused(r),
+    }
+}
+
+// Where the alignment of a sound record starts: its operations judged, then its end.
+fn span_of(s: &[u8], y: Layout, pos: u32, place: u16) -> Span
+    requires { ⌜ Sound (now s) y ⌝ }
+    ensures { λ r. ⌜ r ≡ spanIn y (now (s .entry)) pos place ⌝ }
+{
+    let o = cigar::check_operations(s, y, place);
+    let Operations::Uses(uses) = o else {
+        return unspanned(o);
+    };
+    cigar::check_span(pos, uses, place)
+}
+
+// The refusal of a span, as what is judged of a pair.
+fn unplaced(p: Span) -> Judged
+    ensures { λ r. ⌜ r ≡ onSpan p (λ (s : RefPos). Judged.Apart) ⌝ }
+{
+    match p {
+        Span::Starts(_) => Judged::Apart,
+        Span::Refused(r) => Judged::Refused(r),
+    }
+}
+
+// Two sound records with mapped flags: steps 5 to 7 of the order of judgement.
+fn judge_mapped(
+    first: &[u8],
+    second: &[u8],
+    y: Layout,
+    z: Layout,
+    place1: u16,
+    place2: u16,
+) -> Judged
+    requires { ⌜ Sound (now first) y × Sound (now second) z ⌝ }
+    ensures { λ r. ⌜ r ≡ mappedOf y z (now (first .entry)) (now (second .entry)) place1 place2 ⌝ }
+{
+    let same = fields::same_reference(first, second);
+    if !same {
+        return Judged::Apart;
+    }
+    let at1 = fields::start_of(first);
+    let Placed::At(pos1) = at1 else {
+        return Judged::Apart;
+    };
+    let at2 = fields::start_of(second);
+    let Placed::At(pos2) = at2 else {
+        return Judged::Apart;
+    };
+    let span1 = span_of(first, y, pos1, place1);
+    let Span::Starts(start1) = span1 else {
+        return unplaced(span1);
+    };
+    let span2 = span_of(second, z, pos2, place2);
+    let Span::Starts(start2) = span2 else {
+        return unplaced(span2);
+    };
+    Judged::Both(start1, start2)
+}
+
+// Two sound records judged by steps 4 to 7, from their bytes alone; a refusal names the place given.
+pub fn judge(first: &[u8], second: &[u8], y: Layout, z: Layout, place1: u16, place2: u16) -> Judged
+    requires { ⌜ Sound (now first) y × Sound (now second) z ⌝ }
+    ensures { λ r. ⌜ r ≡ judgedOf y z (now (first .entry)) (now (second .entry)) place1 place2 ⌝ }
+{
+    let f = fields::flags_of(first);
+    if f.unmapped() {
+        return Judged::Apart;
+    }
+    let g = fields::flags_of(second);
+    if g.unmapped() {
+        return Judged::Apart;
+    }
+    judge_mapped(first, second, y, z, place1, place2)
+}
+
+// The shared positions of two records that were judged to be on one reference, treated.
+pub fn treat(
+    w: Strategies,
+    first: &mut [u8],
+    second: &mut [u8],
+    y: Layout,
+    z: Layout,
+    p: RefPos,
+    q: RefPos,
+    g: CorrectionStats,
+) -> Met
+    requires { ⌜ Ready y z p q (now first) (now second) × Room g 131072 ⌝ }
+    ensures { λ r. ⌜ TreatedTo (job w y z) p q (state (now (first .entry)) (now (second .entry)) g) (state (now (first .exit)) (now (second .exit)) (r .stats)) (r .shared) ⌝ }
+{
+    if y.count == 0 {
+        return Met {
+            shared: 0,
+            stats: g,
+        };
+    }
+    if z.count == 0 {
+        return Met {
+            shared: 0,
+            stats: g,
+        };
+    }
+    merge::merge(w, first, second, y, z, p, q, g)
+}

@@ -1,0 +1,4 @@
+pub mod PairLaws
+pub mod MergeLaws
+pub mod PromiseLaws
+pub mod UniqueLaws

@@ -1,0 +1,103 @@
+// The walk over the shared positions of two records: two cursors, one over each alignment, and every
+// run of positions at which both records have a base.
+use cigar::Cursor;
+use fields::Layout;
+use fields::ReadOffset;
+use fields::RefPos;
+use stats::CorrectionStats;
+use strategy::Strategies;
+ghost use mathlib.Core.Path.{_≡_};
+ghost use Prim.Native.Nat.{_*_, min};
+ghost use lib.ListN.{length};
+ghost use Rattle.fields.specs.Check.{Lies};
+ghost use Rattle.stats.specs.Counts.{Room};
+ghost use Rattle.positions.specs.Step.{state, job};
+ghost use Rattle.merge.specs.Shared.{shared, merged, Walked};
+
+// How many positions are shared, and the counts after them.
+pub struct Met {
+    pub shared: usize,
+    pub stats: CorrectionStats,
+}
+
+fn smaller(a: usize, b: usize) -> usize
+    ensures { λ r. ⌜ r ≡ min a b ⌝ }
+{
+    if a < b { a } else { b }
+}
+
+// All shared positions of two records whose alignments start at the positions p and q, treated.
+pub fn merge(
+    w: Strategies,
+    first: &mut [u8],
+    second: &mut [u8],
+    y: Layout,
+    z: Layout,
+    p: RefPos,
+    q: RefPos,
+    g: CorrectionStats,
+) -> Met
+    requires { ⌜ Lies y (length (now first)) × Lies z (length (now second)) × Walked y p (now first) × Walked z q (now second) × Room g (2 * y .count) ⌝ }
+    ensures treated { λ r. ⌜ state (now (first .exit)) (now (second .exit)) (r .stats) ≡ merged (job w y z) p q (state (now (first .entry)) (now (second .entry)) g) ⌝ }
+    ensures counted { λ r. ⌜ r .shared ≡ length (shared y z p q (now (first .entry)) (now (second .entry))) ⌝ }
+{
+    let ye = y.bases;
+    let ze = z.bases;
+    let from1 = p.0;
+    let from2 = q.0;
+    let mut a = cigar::settle(
+        first,
+        ye,
+        Cursor {
+            at: y.operations,
+            offset: ReadOffset(0),
+            position: RefPos(from1),
+            left: 0,
+        },
+    );
+    let mut b = cigar::settle(
+        second,
+        ze,
+        Cursor {
+            at: z.operations,
+            offset: ReadOffset(0),
+            position: RefPos(from2),
+            left: 0,
+        },
+    );
+    let mut met = 0;
+    let mut h = g;
+    while a.left != 0 {
+        if b.left == 0 {
+            return Met {
+                shared: met,
+                stats: h,
+            };
+        }
+        if a.position.0 < b.position.0 {
+            a = cigar::pass(first, ye, a, smaller(a.left, b.position.0 - a.position.0));
+        } else if b.position.0 < a.position.0 {
+            b = cigar::pass(second, ze, b, smaller(b.left, a.position.0 - b.position.0));
+        } else {
+            let n = smaller(a.left, b.left);
+            h = positions::treat_row(
+                w,
+                first,
+                second,
+                y,
+                z,
+                ReadOffset(a.offset.0),
+                ReadOffset(b.offset.0),
+                n,
+                h,
+            );
+            met += n;
+            a = cigar::pass(first, ye, a, n);
+            b = cigar::pass(second, ze, b, n);
+        }
+    }
+    Met {
+        shared: met,
+        stats: h,
+    }
+}

@@ -1,0 +1,3 @@
+pub mod CallLaws
+pub mod PromiseLaws
+pub mod Worked

@@ -1,0 +1,241 @@
+-- The pair call keeps its promise, and no second outcome does.
+use Prim.Native.Nat.{ℕ, zero, suc, _+_, _<_}
+use mathlib.Core.Path.{_≡_, refl, sym, ap, subst, _∙_}
+use mathlib.Core.List.{List, [], _∷_}
+use mathlib.Core.Bool.{Bool, true, false, cond, _||_}
+use mathlib.Core.Logic.{_↔_, _⊎_, inl, inr, ⊎-elim}
+use native.Mathlib.Omega.{arith}
+use lib.IntN.{ℤ, pos, negsuc}
+use lib.ListN.{length}
+use Rattle.refusal.specs.declared.Refusal.{Refusal}
+use Rattle.refusal.specs.declared.Refusal.the-variants.{Count}
+use Rattle.fields.specs.declared.Layout.{Layout}
+use Rattle.fields.specs.declared.RefPos.{RefPos}
+use Rattle.fields.specs.declared.ReadOffset.{ReadOffset}
+use Rattle.fields.specs.declared.Placed.{Placed}
+use Rattle.fields.specs.declared.Placed.the-variants.{At, Unplaced}
+use Rattle.fields.specs.declared.Checked.{Checked}
+use Rattle.fields.specs.declared.Checked.the-variants.{Good, Bad}
+use Rattle.fields.specs.Flag.{hasBit}
+use Rattle.fields.specs.Layout.{header, layoutOf}
+use Rattle.fields.specs.Placed.{placedOf, sameId}
+use Rattle.fields.specs.Check.{checkOf, Sound}
+use Rattle.fields.proofs.CheckLaws.{good-sound}
+use Rattle.fields.proofs.PlacedLaws.{same-id-equal, equal-same-id}
+use Rattle.stats.specs.Counts.{full}
+use Rattle.strategy.specs.declared.Strategies.{Strategies}
+use Rattle.cigar.specs.declared.Span.{Span}
+use Rattle.cigar.specs.declared.Span.the-variants as Spans
+use Rattle.cigar.proofs.SitsLaws.{inRead}
+use Rattle.positions.specs.Step.{State, job, steps, At as InList}
+use Rattle.positions.proofs.PointLaws.{Both}
+use Rattle.merge.specs.Shared.{shared, merged}
+use Rattle.merge.specs.Promise.{Share, Names, Corrected, Bytes}
+use Rattle.merge.proofs.PromiseLaws.{shared-names, promised}
+use Rattle.merge.proofs.UniqueLaws.{one-outcome}
+use Rattle.judgement.specs.declared.Judged.{Judged}
+use Rattle.judgement.specs.declared.Judged.the-variants as Judge
+use Rattle.pair.specs.declared.Answer.{Answer}
+use Rattle.pair.specs.declared.Answer.the-variants as Answers
+use Rattle.judgement.specs.Judgement.{onSpan, onPlaced, spanIn, mappedOf, judgedOf}
+use Rattle.pair.specs.Pair.{Outcome, outcome, answerOf, onJudged, onGood, recordsOf, pairOf}
+use Rattle.pair.specs.Promise.{Accepted, Aligned, fromOne, Overlaps, Kept}
+use Rattle.judgement.proofs.TreatLaws.{Spanned, spanned, both-known, nothing-shared}
+
+-- ---- a refusal, or "no overlap", leaves all as it was
+answer-of : (a b : Outcome) → a ≡ b → a .answer ≡ b .answer
+answer-of a b e = ap (λ (o : Outcome). o .answer) e
+
+after-of : (a b : Outcome) → a ≡ b → a .after ≡ b .after
+after-of a b e = ap (λ (o : Outcome). o .after) e
+
+-- the call ended as it came, or some position is shared and it answers "overlap"
+Quiet : State → Outcome → Type 0
+Quiet s o = (o .after ≡ s) ⊎ (o .answer ≡ Answers.Overlap)
+
+quiet-judged : (w : Strategies) (y z : Layout) (s : State) (j : Judged) → Quiet s (onJudged w y z s j)
+unfolding Quiet
+quiet-judged w y z s (Judge.Refused r) = inl refl
+quiet-judged w y z s Judge.Apart = inl refl
+quiet-judged w y z s (Judge.Both p q) = go (shared y z p q (s .first) (s .second)) refl
+  where
+    go : (l : List (ℕ × ℕ)) → shared y z p q (s .first) (s .second) ≡ l → (merged (job w y z) p q s ≡ s) ⊎ (answerOf l ≡ Answers.Overlap)
+    go [] e = inl (sym (nothing-shared (job w y z) p q s e))
+    go (x ∷ l) e = inr refl
+
+quiet-good : (k : Checked) (s : State) (f : Layout → Outcome) → ((y : Layout) → Quiet s (f y)) → Quiet s (onGood k s f)
+unfolding Quiet
+quiet-good (Good y) s f h = h y
+quiet-good (Bad r) s f h = inl refl
+
+quiet : (w : Strategies) (s : State) → Quiet s (pairOf w s)
+unfolding pairOf recordsOf Quiet
+quiet w s = go (full (s .stats))
+  where
+    go : (t : Bool) → Quiet s (cond t (outcome (Answers.Refused Count) s) (recordsOf w s))
+    go true = inl refl
+    go false = quiet-good (checkOf (s .first) 1) s _ (λ y. quiet-good (checkOf (s .second) 2) s _ (λ z. quiet-judged w y z s (judgedOf y z (s .first) (s .second) 1 2)))
+
+pub refused-keeps : (w : Strategies) (s u : State) (r : Refusal) → pairOf w s ≡ outcome (Answers.Refused r) u → u ≡ s
+unfolding Quiet
+refused-keeps w s u r e =
+    ⊎-elim (λ h. sym (after-of _ _ e) ∙ h)
+    (λ h. let z : _≡_ {A = ℕ} 0 1 = cc (answer-of _ _ e) in absurd (omega arith))
+    (quiet w s)
+
+pub apart-keeps : (w : Strategies) (s u : State) → pairOf w s ≡ outcome Answers.NoOverlap u → u ≡ s
+unfolding Quiet
+apart-keeps w s u e =
+    ⊎-elim (λ h. sym (after-of _ _ e) ∙ h)
+    (λ h. let z : _≡_ {A = ℕ} 0 1 = cc (answer-of _ _ e) in absurd (omega arith))
+    (quiet w s)
+
+-- ---- a call that is not refused has passed the checks of both records
+pub record Passed (w : Strategies) (s : State) (o : Outcome) : Type 0 where
+  pub first : Sound (s .first) (layoutOf (s .first))
+  pub second : Sound (s .second) (layoutOf (s .second))
+  pub judged : onJudged w (layoutOf (s .first)) (layoutOf (s .second)) s (judgedOf (layoutOf (s .first)) (layoutOf (s .second)) (s .first) (s .second) 1 2) ≡ o
+
+good-layout : (s : List ℕ) (p : ℕ) (y : Layout) → checkOf s p ≡ Good y → (y ≡ layoutOf s) × Sound s (layoutOf s)
+good-layout s p y e =
+    let g = good-sound s p y e in
+    (g .layout, subst (λ (x : Layout). Sound s x) (g .layout) g)
+
+pub passed : (w : Strategies) (s : State) (o : Outcome) → pairOf w s ≡ o → Accepted o → Passed w s o
+unfolding pairOf recordsOf
+passed w s o e n = on-full (full (s .stats)) e
+  where
+    rest : (y z : Layout) → Outcome
+    rest y z = onJudged w y z s (judgedOf y z (s .first) (s .second) 1 2)
+
+    on-second : (y z : Layout) → checkOf (s .first) 1 ≡ Good y → checkOf (s .second) 2 ≡ Good z → onJudged w y z s (judgedOf y z (s .first) (s .second) 1 2) ≡ o → Passed w s o
+    on-second y z f g h =
+        let a = good-layout (s .first) 1 y f in
+        let b = good-layout (s .second) 2 z g in
+        record { first = a .1; second = b .1; judged = (rw (a .0, b .0) at h) }
+
+    on-first : (y : Layout) → checkOf (s .first) 1 ≡ Good y → (k : Checked) → checkOf (s .second) 2 ≡ k → onGood k s (λ z. onJudged w y z s (judgedOf y z (s .first) (s .second) 1 2)) ≡ o → Passed w s o
+    on-first y f (Good z) g h = on-second y z f g h
+    on-first y f (Bad r) g h = absurd (n r (sym (answer-of _ _ h)))
+
+    on-records : (k : Checked) → checkOf (s .first) 1 ≡ k → onGood k s (λ y. onGood (checkOf (s .second) 2) s (λ z. onJudged w y z s (judgedOf y z (s .first) (s .second) 1 2))) ≡ o → Passed w s o
+    on-records (Good y) f h = on-first y f (checkOf (s .second) 2) refl h
+    on-records (Bad r) f h = absurd (n r (sym (answer-of _ _ h)))
+
+    on-full : (t : Bool) → cond t (outcome (Answers.Refused Count) s) (recordsOf w s) ≡ o → Passed w s o
+    on-full true h = absurd (n Count (sym (answer-of _ _ h)))
+    on-full false h = on-records (checkOf (s .first) 1) refl h
+
+-- ---- aligned records are refused by their operations or placed, and never apart
+placed-at : (z : ℤ) (n : ℕ) → z ≡ pos n → placedOf z ≡ At n
+placed-at z n e = ap placedOf e
+
+aligned-judged : (y z : Layout) (a b : List ℕ) (i j : ℕ) (al : Aligned a b)
+    → onSpan (spanIn y a (al .pos₁) i) (λ s. onSpan (spanIn z b (al .pos₂) j) (λ t. Judge.Both s t)) ≡ judgedOf y z a b i j
+unfolding judgedOf mappedOf
+aligned-judged y z a b i j al =
+    rw (al .mapped₁, al .mapped₂, equal-same-id (header a .refId) (header b .refId) (al .reference), placed-at (header a .pos) (al .pos₁) (al .placed₁), placed-at (header b .pos) (al .pos₂) (al .placed₂))
+
+-- ---- demand 3
+module _ (w : Strategies) (s : State) where
+  abbrev y : Layout
+  y = layoutOf (s .first)
+
+  abbrev z : Layout
+  z = layoutOf (s .second)
+
+  some-position : (p q : RefPos) (l : List (ℕ × ℕ)) → Names y z p q s l → answerOf l ≡ Answers.Overlap → (i : ReadOffset) × ((j : ReadOffset) × Share y z p q s i j)
+  unfolding InList
+  some-position p q [] n e = let x : _≡_ {A = ℕ} 0 1 = cc in absurd (omega arith)
+  some-position p q (x ∷ l) n e = (inRead (x .0), (inRead (x .1), n .only (inRead (x .0)) (inRead (x .1)) (inl (refl, refl))))
+
+  answered : (p q : RefPos) (l : List (ℕ × ℕ)) → Names y z p q s l → (i : ReadOffset) × ((j : ReadOffset) × Share y z p q s i j) → answerOf l ≡ Answers.Overlap
+  unfolding InList
+  answered p q [] n h = absurd (n .all (h .0) (h .1 .0) (h .1 .1))
+  answered p q (x ∷ l) n h = refl
+
+  none-shared : (p q : RefPos) (l : List (ℕ × ℕ)) → Names y z p q s l → ((i : ReadOffset) × ((j : ReadOffset) × Share y z p q s i j) → ⊥) → answerOf l ≡ Answers.NoOverlap
+  none-shared p q [] n h = refl
+  none-shared p q (x ∷ l) n h = absurd (h (some-position p q (x ∷ l) n refl))
+
+  not-both : (r : Answer) → r ≡ Answers.NoOverlap → r ≡ Answers.Overlap → ⊥
+  not-both r e f = let x : _≡_ {A = ℕ} 0 1 = cc in omega arith
+
+  -- the outcome of two records that start at p and q, counted from 0
+  kept-at : (p q : ℕ) → Sound (s .first) y → Sound (s .second) z → Kept w s (onJudged w y z s (Judge.Both (fromOne p) (fromOne q))) p q
+  kept-at p q g h =
+      let l = shared y z (fromOne p) (fromOne q) (s .first) (s .second) in
+      let n = shared-names w y z (fromOne p) (fromOne q) s in
+      record {
+        overlap = ((λ e. some-position (fromOne p) (fromOne q) l n e), λ o. answered (fromOne p) (fromOne q) l n o);
+        apart = ((λ e o. not-both _ e (answered (fromOne p) (fromOne q) l n o)), λ o. none-shared (fromOne p) (fromOne q) l n o);
+        corrected = promised w y z (fromOne p) (fromOne q) s (record { first = g .lies; second = h .lies });
+      }
+
+  pub promise : (o : Outcome) → pairOf w s ≡ o → Accepted o → (al : Aligned (s .first) (s .second)) → Kept w s o (al .pos₁) (al .pos₂)
+  promise o e n al =
+      let m = passed w s o e n in
+      first-span (m .first) (m .second) (spanIn y (s .first) (al .pos₁) 1) refl
+      (ap (onJudged w y z s) (aligned-judged y z (s .first) (s .second) 1 2 al) ∙ m .judged)
+    where
+      starts : (pos₀ : ℕ) (x : RefPos) → x .0 ≡ pos₀ + 1 → x ≡ fromOne pos₀
+      starts pos₀ x f = λ i. record { 0 = f i }
+
+      second-span : (x : RefPos) → Sound (s .first) y → Sound (s .second) z → spanIn y (s .first) (al .pos₁) 1 ≡ Spans.Starts x → (v : Span) → spanIn z (s .second) (al .pos₂) 2 ≡ v
+          → onJudged w y z s (onSpan v (λ t. Judge.Both x t)) ≡ o → Kept w s o (al .pos₁) (al .pos₂)
+      second-span x g h f (Spans.Starts t) k i =
+          let a = starts (al .pos₁) x (spanned y (s .first) (al .pos₁) 1 x f .first) in
+          let b = starts (al .pos₂) t (spanned z (s .second) (al .pos₂) 2 t k .first) in
+          subst (λ (u : Outcome). Kept w s u (al .pos₁) (al .pos₂)) ((rw (a, b) at i)) (kept-at (al .pos₁) (al .pos₂) g h)
+      second-span x g h f (Spans.Refused r) k i = absurd (n r (sym (answer-of _ _ i)))
+
+      first-span : Sound (s .first) y → Sound (s .second) z → (u : Span) → spanIn y (s .first) (al .pos₁) 1 ≡ u
+          → onJudged w y z s (onSpan u (λ t. onSpan (spanIn z (s .second) (al .pos₂) 2) (λ v. Judge.Both t v))) ≡ o → Kept w s o (al .pos₁) (al .pos₂)
+      first-span g h (Spans.Starts x) f i = second-span x g h f (spanIn z (s .second) (al .pos₂) 2) refl i
+      first-span g h (Spans.Refused r) f i = absurd (n r (sym (answer-of _ _ i)))
+
+  -- only aligned records overlap
+  pub overlap-aligned : (u : State) → pairOf w s ≡ outcome Answers.Overlap u → Aligned (s .first) (s .second)
+  overlap-aligned u e =
+      let m = passed w s (outcome Answers.Overlap u) e (λ r f. let x : _≡_ {A = ℕ} 0 1 = cc in omega arith) in
+      go (judgedOf y z (s .first) (s .second) 1 2) refl (m .judged)
+    where
+      is-pos : (v : ℤ) (n : ℕ) → placedOf v ≡ At n → v ≡ pos n
+      is-pos (pos m) n f = ap pos (cc)
+      is-pos (negsuc m) n f = let x : _≡_ {A = ℕ} 0 1 = cc in absurd (omega arith)
+
+      go : (j : Judged) → judgedOf y z (s .first) (s .second) 1 2 ≡ j → onJudged w y z s j ≡ outcome Answers.Overlap u → Aligned (s .first) (s .second)
+      go (Judge.Refused r) f h = let x : _≡_ {A = ℕ} 0 1 = cc (answer-of _ _ h) in absurd (omega arith)
+      go Judge.Apart f h = let x : _≡_ {A = ℕ} 0 1 = cc (answer-of _ _ h) in absurd (omega arith)
+      go (Judge.Both p q) f h =
+          let k = both-known y z (s .first) (s .second) 1 2 p q f in
+          record {
+            mapped₁ = k .mapped₁;
+            mapped₂ = k .mapped₂;
+            reference = same-id-equal _ _ (k .reference);
+            pos₁ = k .pos₁;
+            pos₂ = k .pos₂;
+            placed₁ = is-pos _ (k .pos₁) (k .placed₁);
+            placed₂ = is-pos _ (k .pos₂) (k .placed₂);
+          }
+
+  -- ---- no second outcome fits
+  module _ (p q : ℕ) (g : Sound (s .first) y) (h : Sound (s .second) z) (a b : Outcome) (ka : Kept w s a p q) (kb : Kept w s b p q) where
+    same-answer : (r : Answer) → a .answer ≡ r → a .answer ≡ b .answer
+    same-answer Answers.Overlap e = e ∙ sym (kb .overlap .1 (ka .overlap .0 e))
+    same-answer Answers.NoOverlap e = e ∙ sym (kb .apart .1 (ka .apart .0 e))
+    same-answer (Answers.Refused r) e =
+        let none : Overlaps s p q → ⊥ = λ o. not-refused (ka .overlap .1 o) in
+        absurd (not-refused′ (ka .apart .1 none))
+      where
+        not-refused : a .answer ≡ Answers.Overlap → ⊥
+        not-refused f = let x : _≡_ {A = ℕ} 0 1 = cc in omega arith
+
+        not-refused′ : a .answer ≡ Answers.NoOverlap → ⊥
+        not-refused′ f = let x : _≡_ {A = ℕ} 0 1 = cc in omega arith
+
+    pub one-fits : Bytes (a .after .first) → Bytes (b .after .first) → Bytes (a .after .second) → Bytes (b .after .second) → a ≡ b
+    one-fits b1 b2 b3 b4 =
+        let answers = same-answer (a .answer) refl in
+        let states = one-outcome w y z (fromOne p) (fromOne q) s (record { first = g .lies; second = h .lies }) (a .after) (b .after) (ka .corrected) (kb .corrected) b1 b2 b3 b4 in
+        λ i. record { answer = answers i; after = states i }

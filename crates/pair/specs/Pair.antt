@@ -1,0 +1,59 @@
+-- The pair call, in the document's order of judgement.
+use Prim.Native.Nat.{ℕ}
+use mathlib.Core.List.{List, [], _∷_}
+use mathlib.Core.Bool.{cond}
+use Rattle.refusal.specs.declared.Refusal.the-variants.{Count}
+use Rattle.refusal.specs.Table.{codeOf}
+use Rattle.fields.specs.declared.Layout.{Layout}
+use Rattle.fields.specs.declared.Checked.{Checked}
+use Rattle.fields.specs.declared.Checked.the-variants.{Good, Bad}
+use Rattle.fields.specs.Check.{checkOf}
+use Rattle.stats.specs.Counts.{full}
+use Rattle.strategy.specs.declared.Strategies.{Strategies}
+use Rattle.positions.specs.Step.{State, job}
+use Rattle.merge.specs.Shared.{shared, merged}
+use Rattle.judgement.specs.declared.Judged.{Judged}
+use Rattle.judgement.specs.declared.Judged.the-variants as Judge
+use Rattle.judgement.specs.Judgement.{judgedOf}
+use Rattle.pair.specs.declared.Answer.{Answer}
+use Rattle.pair.specs.declared.Answer.the-variants as Answers
+
+-- the answer, and both records and the counts after the call
+pub record Outcome : Type 0 where
+  pub answer : Answer
+  pub after : State
+
+abbrev pub outcome : Answer → State → Outcome
+outcome r s = record { answer = r; after = s }
+
+-- steps 8 and 9: overlap where some position is shared
+abbrev pub answerOf : List (ℕ × ℕ) → Answer
+answerOf [] = Answers.NoOverlap
+answerOf (e ∷ l) = Answers.Overlap
+
+abbrev pub onJudged : Strategies → Layout → Layout → State → Judged → Outcome
+onJudged w y z s (Judge.Refused r) = outcome (Answers.Refused r) s
+onJudged w y z s Judge.Apart = outcome Answers.NoOverlap s
+onJudged w y z s (Judge.Both p q) = outcome (answerOf (shared y z p q (s .first) (s .second))) (merged (job w y z) p q s)
+
+abbrev pub refusedAnswer : Checked → Answer
+refusedAnswer (Good y) = Answers.NoOverlap
+refusedAnswer (Bad r) = Answers.Refused r
+
+abbrev pub onGood : Checked → State → (Layout → Outcome) → Outcome
+onGood (Good y) s rest = rest y
+onGood (Bad r) s rest = outcome (Answers.Refused r) s
+
+-- step 3, first record before second; then the rest
+unfoldable pub recordsOf : Strategies → State → Outcome
+recordsOf w s = onGood (checkOf (s .first) 1) s (λ y. onGood (checkOf (s .second) 2) s (λ z. onJudged w y z s (judgedOf y z (s .first) (s .second) 1 2)))
+
+-- the whole call: step 2 is the statistics
+unfoldable pub pairOf : Strategies → State → Outcome
+pairOf w s = cond (full (s .stats)) (outcome (Answers.Refused Count) s) (recordsOf w s)
+
+-- what an exported call answers
+abbrev pub answerCode : Answer → ℕ
+answerCode Answers.NoOverlap = 0
+answerCode Answers.Overlap = 1
+answerCode (Answers.Refused r) = codeOf r

@@ -1,0 +1,45 @@
+-- What a reader is promised of a pair call, in the words of the demands: `s` before, `o` the answer and what is there after.
+use Prim.Native.Nat.{ℕ, _+_}
+use mathlib.Core.Path.{_≡_}
+use mathlib.Core.List.{List}
+use mathlib.Core.Bool.{false}
+use mathlib.Core.Logic.{_↔_}
+use lib.IntN.{pos}
+use Rattle.refusal.specs.declared.Refusal.{Refusal}
+use Rattle.fields.specs.declared.RefPos.{RefPos}
+use Rattle.fields.specs.declared.ReadOffset.{ReadOffset}
+use Rattle.fields.specs.Flag.{hasBit}
+use Rattle.fields.specs.Layout.{header, layoutOf}
+use Rattle.strategy.specs.declared.Strategies.{Strategies}
+use Rattle.positions.specs.Step.{State, job}
+use Rattle.merge.specs.Promise.{Share, Corrected}
+use Rattle.pair.specs.declared.Answer.the-variants as Answers
+use Rattle.pair.specs.Pair.{Outcome}
+
+-- the call isn't refused
+abbrev pub Accepted : Outcome → Type 0
+Accepted o = (r : Refusal) → o .answer ≡ Answers.Refused r → ⊥
+
+-- both records are mapped, on one reference id, and their positions are not negative
+pub record Aligned (a b : List ℕ) : Type 0 where
+  pub mapped₁ : hasBit (header a .flags) 4 ≡ false
+  pub mapped₂ : hasBit (header b .flags) 4 ≡ false
+  pub reference : header a .refId ≡ header b .refId
+  pub pos₁ : ℕ
+  pub pos₂ : ℕ
+  pub placed₁ : header a .pos ≡ pos pos₁
+  pub placed₂ : header b .pos ≡ pos pos₂
+
+-- the position of a record's pos, counted from 1
+abbrev pub fromOne : ℕ → RefPos
+fromOne p = record { 0 = p + 1 }
+
+-- some reference position carries a base of each
+abbrev pub Overlaps : State → ℕ → ℕ → Type 0
+Overlaps s p q = (i : ReadOffset) × ((j : ReadOffset) × Share (layoutOf (s .first)) (layoutOf (s .second)) (fromOne p) (fromOne q) s i j)
+
+-- demand 3: the answer is "overlap" exactly when some position is shared; both records and the counts are corrected
+pub record Kept (w : Strategies) (s : State) (o : Outcome) (p q : ℕ) : Type 0 where
+  pub overlap : (o .answer ≡ Answers.Overlap) ↔ Overlaps s p q
+  pub apart : (o .answer ≡ Answers.NoOverlap) ↔ (Overlaps s p q → ⊥)
+  pub corrected : Corrected (job w (layoutOf (s .first)) (layoutOf (s .second))) (fromOne p) (fromOne q) s (o .after)

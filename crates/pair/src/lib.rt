@@ -1,0 +1,139 @@
+// The pair call: two records judged wholly, and only then corrected where they stand.
+use fields::Checked;
+use fields::Layout;
+use fields::RefPos;
+use judgement::Judged;
+use refusal::Refusal;
+use stats::CorrectionStats;
+use strategy::AgreementStrategy;
+use strategy::DisagreementStrategy;
+use strategy::Strategies;
+ghost use mathlib.Core.Path.{_≡_};
+ghost use Rattle.stats.specs.Counts.{Room};
+ghost use Rattle.positions.specs.Step.{state};
+ghost use Rattle.judgement.specs.Judgement.{Ready};
+ghost use Rattle.pair.specs.Pair.{onJudged, refusedAnswer, outcome, pairOf, answerCode};
+
+// What a pair call answers. A refusal and "no overlap" change nothing.
+pub enum Answer {
+    NoOverlap,
+    Overlap,
+    Refused(Refusal),
+}
+
+// The answer, and the counts after the call.
+pub struct Called {
+    pub answer: Answer,
+    pub stats: CorrectionStats,
+}
+
+impl Answer {
+    // The number that an exported call answers.
+    pub fn code(self) -> u32
+        ensures { λ r. ⌜ r ≡ answerCode self ⌝ }
+    {
+        match self {
+            Answer::NoOverlap => 0,
+            Answer::Overlap => 1,
+            Answer::Refused(r) => r.code(),
+        }
+    }
+}
+
+// A record that was not good, as the call's answer.
+fn refused(c: Checked) -> Answer
+    ensures { λ r. ⌜ r ≡ refusedAnswer c ⌝ }
+{
+    match c {
+        Checked::Good(_) => Answer::NoOverlap,
+        Checked::Bad(r) => Answer::Refused(r),
+    }
+}
+
+// Two records that were judged to be on one reference: treated, and answered by what they share.
+fn call_both(
+    w: Strategies,
+    first: &mut [u8],
+    second: &mut [u8],
+    y: Layout,
+    z: Layout,
+    p: RefPos,
+    q: RefPos,
+    stats: CorrectionStats,
+) -> Called
+    requires { ⌜ Ready y z p q (now first) (now second) × Room stats 131072 ⌝ }
+    ensures { λ r. ⌜ outcome (r .answer) (state (now (first .exit)) (now (second .exit)) (r .stats)) ≡ onJudged w y z (state (now (first .entry)) (now (second .entry)) stats) (Judged.Both p q) ⌝ }
+{
+    let met = judgement::treat(w, first, second, y, z, p, q, stats);
+    let after = met.stats;
+    if met.shared == 0 {
+        return Called {
+            answer: Answer::NoOverlap,
+            stats: after,
+        };
+    }
+    Called {
+        answer: Answer::Overlap,
+        stats: after,
+    }
+}
+
+// Two records and the counts: the order of judgement from the statistics on.
+fn call_with(w: Strategies, first: &mut [u8], second: &mut [u8], stats: CorrectionStats) -> Called
+    ensures { λ r. ⌜ outcome (r .answer) (state (now (first .exit)) (now (second .exit)) (r .stats)) ≡ pairOf w (state (now (first .entry)) (now (second .entry)) stats) ⌝ }
+{
+    if stats.full() {
+        return Called {
+            answer: Answer::Refused(Refusal::Count),
+            stats,
+        };
+    }
+    let checked1 = fields::check_record(first, 1);
+    let Checked::Good(y) = checked1 else {
+        return Called {
+            answer: refused(checked1),
+            stats,
+        };
+    };
+    let checked2 = fields::check_record(second, 2);
+    let Checked::Good(z) = checked2 else {
+        return Called {
+            answer: refused(checked2),
+            stats,
+        };
+    };
+    let judged = judgement::judge(first, second, y, z, 1, 2);
+    match judged {
+        Judged::Refused(r) => Called {
+            answer: Answer::Refused(r),
+            stats,
+        },
+        Judged::Apart => Called {
+            answer: Answer::NoOverlap,
+            stats,
+        },
+        Judged::Both(p, q) => call_both(w, first, second, y, z, p, q, stats),
+    }
+}
+
+// Corrects two records where they stand, and adds to the counts. Refused, or without an overlap,
+// both records and the counts are as they came.
+pub fn call(
+    first: &mut [u8],
+    second: &mut [u8],
+    agreement: AgreementStrategy,
+    disagreement: DisagreementStrategy,
+    stats: CorrectionStats,
+) -> Called
+    ensures { λ r. ⌜ outcome (r .answer) (state (now (first .exit)) (now (second .exit)) (r .stats)) ≡ pairOf (record { agreement = agreement; disagreement = disagreement }) (state (now (first .entry)) (now (second .entry)) stats) ⌝ }
+{
+    call_with(
+        Strategies {
+            agreement,
+            disagreement,
+        },
+        first,
+        second,
+        stats,
+    )
+}

@@ -1,0 +1,224 @@
+// What a shared position becomes: two bases and their qualities, treated by the two strategies.
+use refusal::Refusal;
+use stats::CorrectionStats;
+ghost use mathlib.Core.Path.{_≡_};
+ghost use Prim.Native.Nat.{_+_, _<_, min, max};
+ghost use mathlib.Core.Option.{some};
+ghost use Rattle.stats.specs.Counts.{zeroed};
+ghost use Rattle.strategy.specs.Rule.{out, agreedTo, agreed, differedTo, differed, treated};
+ghost use Rattle.strategy.specs.Number.{agreementOf, disagreementOf, numberedOf};
+
+// What to do where both bases agree: add the qualities, take the larger, or leave both.
+pub enum AgreementStrategy {
+    Consensus,
+    MaxQual,
+    PassThrough,
+}
+
+// What to do where they disagree: call the better base, mask both, or mask the lower.
+pub enum DisagreementStrategy {
+    Consensus,
+    MaskBoth,
+    MaskLowerQual,
+}
+
+// The two strategies of a call.
+pub struct Strategies {
+    pub agreement: AgreementStrategy,
+    pub disagreement: DisagreementStrategy,
+}
+
+// Both bases with their qualities after the treatment, and by how much each count grows.
+pub struct Treated {
+    pub base1: u8,
+    pub qual1: u8,
+    pub base2: u8,
+    pub qual2: u8,
+    pub growth: CorrectionStats,
+}
+
+fn larger(a: u8, b: u8) -> u8
+    ensures { λ r. ⌜ r ≡ max a b ⌝ }
+{
+    if a < b { b } else { a }
+}
+
+// The smaller of the sum and 93, added where it cannot wrap.
+fn capped_sum(a: u8, b: u8) -> u8
+    ensures { λ r. ⌜ r ≡ min (a + b) 93 ⌝ }
+{
+    let sum = (a as u16) + (b as u16);
+    if sum < 93 { sum as u8 } else { 93 }
+}
+
+// Both qualities as p and q: one count is corrected if either is new.
+fn requalified(x: u8, a: u8, b: u8, p: u8, q: u8) -> Treated
+    ensures { λ r. ⌜ r ≡ agreedTo x a b p q ⌝ }
+{
+    let mut corrected = 1;
+    if a == p {
+        if b == q {
+            corrected = 0;
+        }
+    }
+    Treated {
+        base1: x,
+        qual1: p,
+        base2: x,
+        qual2: q,
+        growth: CorrectionStats {
+            overlapping: 1,
+            agreeing: 1,
+            disagreeing: 0,
+            corrected,
+        },
+    }
+}
+
+// Two equal called bases x, of qualities a and b.
+fn process_agreement(m: AgreementStrategy, x: u8, a: u8, b: u8) -> Treated
+    ensures { λ r. ⌜ r ≡ agreed m x a b ⌝ }
+{
+    match m {
+        AgreementStrategy::Consensus => {
+            let q = capped_sum(a, b);
+            requalified(x, a, b, q, q)
+        }
+        AgreementStrategy::MaxQual => {
+            let q = larger(a, b);
+            requalified(x, a, b, q, q)
+        }
+        AgreementStrategy::PassThrough => requalified(x, a, b, a, b),
+    }
+}
+
+// Both bases and qualities as given, and how many bases were corrected.
+fn disagreement(x: u8, a: u8, y: u8, b: u8, corrected: u64) -> Treated
+    ensures { λ r. ⌜ r ≡ differedTo x a y b corrected ⌝ }
+{
+    Treated {
+        base1: x,
+        qual1: a,
+        base2: y,
+        qual2: b,
+        growth: CorrectionStats {
+            overlapping: 1,
+            agreeing: 0,
+            disagreeing: 1,
+            corrected,
+        },
+    }
+}
+
+// Two called bases that differ: x of quality a, and y of quality b.
+fn process_disagreement(k: DisagreementStrategy, x: u8, a: u8, y: u8, b: u8) -> Treated
+    ensures { λ r. ⌜ r ≡ differed k x a y b ⌝ }
+{
+    match k {
+        DisagreementStrategy::Consensus => {
+            if a < b {
+                let q = larger(b - a, 2);
+                return disagreement(y, q, y, q, 2);
+            }
+            if b < a {
+                let q = larger(a - b, 2);
+                return disagreement(x, q, x, q, 2);
+            }
+            disagreement(15, 2, 15, 2, 2)
+        }
+        DisagreementStrategy::MaskBoth => disagreement(15, 2, 15, 2, 2),
+        DisagreementStrategy::MaskLowerQual => {
+            if a < b {
+                return disagreement(15, 2, y, b, 1);
+            }
+            if b < a {
+                return disagreement(x, a, 15, 2, 1);
+            }
+            disagreement(15, 2, 15, 2, 2)
+        }
+    }
+}
+
+// What a shared position becomes: base code x with quality a in the first record, and y with b in
+// the second. Code 15 is N, which no strategy touches.
+pub fn treat(w: Strategies, x: u8, a: u8, y: u8, b: u8) -> Treated
+    ensures { λ r. ⌜ r ≡ treated w x a y b ⌝ }
+{
+    if x == 15 {
+        return untouched(x, a, y, b);
+    }
+    if y == 15 {
+        return untouched(x, a, y, b);
+    }
+    if x == y {
+        let m = w.agreement;
+        return process_agreement(m, x, a, b);
+    }
+    let k = w.disagreement;
+    process_disagreement(k, x, a, y, b)
+}
+
+// A pair with an N: it stays, and nothing is counted.
+fn untouched(x: u8, a: u8, y: u8, b: u8) -> Treated
+    ensures { λ r. ⌜ r ≡ out x a y b zeroed ⌝ }
+{
+    Treated {
+        base1: x,
+        qual1: a,
+        base2: y,
+        qual2: b,
+        growth: CorrectionStats::new(),
+    }
+}
+
+// Both strategies by their numbers, or the refusal of a number that is none.
+pub enum Numbered {
+    Are(Strategies),
+    Refused(Refusal),
+}
+
+// 0 is Consensus, 1 MaxQual, 2 PassThrough.
+fn agreement_of(n: u32) -> AgreementStrategy
+    requires { ⌜ n < 3 ⌝ }
+    ensures { λ r. ⌜ some r ≡ agreementOf n ⌝ }
+{
+    if n == 0 {
+        return AgreementStrategy::Consensus;
+    }
+    if n == 1 {
+        return AgreementStrategy::MaxQual;
+    }
+    AgreementStrategy::PassThrough
+}
+
+// 0 is Consensus, 1 MaskBoth, 2 MaskLowerQual.
+fn disagreement_of(n: u32) -> DisagreementStrategy
+    requires { ⌜ n < 3 ⌝ }
+    ensures { λ r. ⌜ some r ≡ disagreementOf n ⌝ }
+{
+    if n == 0 {
+        return DisagreementStrategy::Consensus;
+    }
+    if n == 1 {
+        return DisagreementStrategy::MaskBoth;
+    }
+    DisagreementStrategy::MaskLowerQual
+}
+
+// The strategies that two numbers stand for. Refused where either is not 0 to 2.
+pub fn by_number(agreement: u32, disagreement: u32) -> Numbered
+    ensures { λ r. ⌜ r ≡ numberedOf agreement disagreement ⌝ }
+{
+    if 2 < agreement {
+        return Numbered::Refused(Refusal::Strategy);
+    }
+    if 2 < disagreement {
+        return Numbered::Refused(Refusal::Strategy);
+    }
+    let m = agreement_of(agreement);
+    let k = disagreement_of(disagreement);
+    Numbered::Are(Strategies {
+        agreement: m,
+        disagreement: k,
+    })
+}
