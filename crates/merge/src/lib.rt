@@ -80,7 +80,7 @@ pub fn merge(
             b = cigar::pass(second, ze, b, smaller(b.left, a.position.0 - b.position.0));
         } else {
             let n = smaller(a.left, b.left);
-            h = positions::treat_row(
+            h = blocks::treat_row(
                 w,
                 first,
                 second,

@@ -1,0 +1,10 @@
+pub mod LaneLaws
+pub mod PutLaws
+pub mod BlockLaws
+pub mod FillLaws
+pub mod SumLaws
+pub mod GatherLaws
+pub mod DifferLaws
+pub mod RowLaws
+pub mod TallyLaws
+pub mod ShortLaws

@@ -1,0 +1,13 @@
+-- `blocks::lane::choose` meets its contract: each return is a case of the definition, by the test on the way. Assumes nothing.
+use borrow.Author.Tests.{eq-eqb, ne-eqb}
+use Rattle.blocks.proofs.lane.choose.Statement.{statement}
+use Rattle.blocks.proofs.lane.choose.Tie as tie
+
+returns : tie.Need-returns
+returns c = simp (eq-eqb _ _ (c .if1 .taken))
+
+returns-2 : tie.Need-returns-2
+returns-2 c = simp (ne-eqb _ _ (c .if1 .left))
+
+pub choose-spec : {M : Type 1} → statement M
+choose-spec = tie.close (tie.spec returns returns-2)

@@ -1,0 +1,2 @@
+pub mod LaneRule
+pub mod BlockParts
