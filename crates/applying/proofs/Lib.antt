@@ -1,0 +1,4 @@
+pub mod CallLaws
+pub mod WrittenLaws
+pub mod PutLaws
+pub mod ApplyLaws

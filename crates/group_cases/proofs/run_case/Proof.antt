@@ -1,0 +1,157 @@
+-- `group_cases::run_case` meets its contract. Assumes nothing.
+use borrow.Author.Needs.{needs}
+use Rattle.group_cases.proofs.run_case.Statement.{statement}
+use Rattle.group_cases.proofs.run_case.Tie as tie
+
+read-full-requires : tie.Need-read-full-requires
+read-full-requires c κs = search needs
+
+same-length : tie.Need-same-length
+same-length c = search needs
+
+returns : tie.Need-returns
+returns c = search needs
+
+u32-at-requires : tie.Need-u32-at-requires
+u32-at-requires c κs = search needs
+
+cast-n : tie.Need-cast-n
+cast-n c = search needs
+
+u32-at-requires-2 : tie.Need-u32-at-requires-2
+u32-at-requires-2 c κs = search needs
+
+cast-m : tie.Need-cast-m
+cast-m c = search needs
+
+same-length-2 : tie.Need-same-length-2
+same-length-2 c = search needs
+
+returns-2 : tie.Need-returns-2
+returns-2 c = search needs
+
+same-length-3 : tie.Need-same-length-3
+same-length-3 c = search needs
+
+returns-3 : tie.Need-returns-3
+returns-3 c = search needs
+
+sub-read-full : tie.Need-sub-read-full
+sub-read-full c = search needs
+
+part-read-full-start : tie.Need-part-read-full-start
+part-read-full-start c = search needs
+
+part-read-full-end : tie.Need-part-read-full-end
+part-read-full-end c = search needs
+
+read-full-requires-2 : tie.Need-read-full-requires-2
+read-full-requires-2 c κs = search needs
+
+sub-read-full-2 : tie.Need-sub-read-full-2
+sub-read-full-2 c = search needs
+
+part-read-full-start-2 : tie.Need-part-read-full-start-2
+part-read-full-start-2 c = search needs
+
+part-read-full-end-2 : tie.Need-part-read-full-end-2
+part-read-full-end-2 c = search needs
+
+read-full-requires-3 : tie.Need-read-full-requires-3
+read-full-requires-3 c κs = search needs
+
+overlap-requires : tie.Need-overlap-requires
+overlap-requires c κs = search needs
+
+front-requires : tie.Need-front-requires
+front-requires c κs = search needs
+
+write-all-requires : tie.Need-write-all-requires
+write-all-requires c κs = search needs
+
+written-requires : tie.Need-written-requires
+written-requires c κs = search needs
+
+front-requires-2 : tie.Need-front-requires-2
+front-requires-2 c κs = search needs
+
+same-requires : tie.Need-same-requires
+same-requires c κs = search needs
+
+slice-aggregate-write-all : tie.Need-slice-aggregate-write-all
+slice-aggregate-write-all c = search needs
+
+write-all-requires-2 : tie.Need-write-all-requires-2
+write-all-requires-2 c κs = search needs
+
+slice-aggregate-write-all-2 : tie.Need-slice-aggregate-write-all-2
+slice-aggregate-write-all-2 c = search needs
+
+write-all-requires-3 : tie.Need-write-all-requires-3
+write-all-requires-3 c κs = search needs
+
+same-length-4 : tie.Need-same-length-4
+same-length-4 c = c .before .before .before .before .before .before .before .before .before .before .before .before .before .before .before .before .before .before .before .before .before .before .before .before .before .before .before .before .before .before .before .before .before .read-full .kept .1 .0
+
+same-length-5 : tie.Need-same-length-5
+same-length-5 c = search needs
+
+same-length-6 : tie.Need-same-length-6
+same-length-6 c = search needs
+
+returns-4 : tie.Need-returns-4
+returns-4 c = search needs
+
+same-length-7 : tie.Need-same-length-7
+same-length-7 c = c .before .before .before .before .before .before .before .before .before .before .before .before .before .before .before .before .before .before .before .before .before .before .before .before .before .before .before .before .before .before .before .before .before .read-full .kept .1 .0
+
+same-length-8 : tie.Need-same-length-8
+same-length-8 c = search needs
+
+same-length-9 : tie.Need-same-length-9
+same-length-9 c = search needs
+
+returns-5 : tie.Need-returns-5
+returns-5 c = search needs
+
+pub run-case-spec : {M : Type 1} → statement M
+run-case-spec =
+    tie.close
+    (tie.spec
+    read-full-requires
+    same-length
+    returns
+    u32-at-requires
+    cast-n
+    u32-at-requires-2
+    cast-m
+    same-length-2
+    returns-2
+    same-length-3
+    returns-3
+    sub-read-full
+    part-read-full-start
+    part-read-full-end
+    read-full-requires-2
+    sub-read-full-2
+    part-read-full-start-2
+    part-read-full-end-2
+    read-full-requires-3
+    overlap-requires
+    front-requires
+    write-all-requires
+    written-requires
+    front-requires-2
+    same-requires
+    slice-aggregate-write-all
+    write-all-requires-2
+    slice-aggregate-write-all-2
+    write-all-requires-3
+    same-length-4
+    same-length-5
+    same-length-6
+    returns-4
+    same-length-7
+    same-length-8
+    same-length-9
+    returns-5)

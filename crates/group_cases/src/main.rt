@@ -1,0 +1,67 @@
+// Runs a list of inputs of the program `overlap` and compares what it would write with what it must:
+// each case is a name of 32 bytes, two u32 sizes, the input, and what must be written.
+ghost use mathlib.Core.Path.{_≡_};
+ghost use Prim.Native.Nat.{_≤_};
+ghost use lib.ListN.{length};
+
+// Room for an input, and for what must be written.
+fn room() -> [u8; 70000]
+    ensures { λ r. ⌜ 70000 ≡ length r ⌝ }
+{
+    [0; 70000]
+}
+
+// Room for what is written.
+fn output_room() -> [u8; 65792]
+    ensures { λ r. ⌜ 65792 ≡ length r ⌝ }
+{
+    [0; 65792]
+}
+
+// Reads a case, runs it and writes whether it is as expected. False where no case is left.
+fn run_case(head: &mut [u8], input: &mut [u8], expected: &mut [u8], out: &mut [u8; 65792]) -> bool {
+    let got = io::read_full(0, head);
+    if got < 40 {
+        return false;
+    }
+    let n = fields::u32_at(head, 32) as usize;
+    let m = fields::u32_at(head, 36) as usize;
+    if input.len() < n {
+        return false;
+    }
+    if expected.len() < m {
+        return false;
+    }
+    io::read_full(0, &mut input[0..n]);
+    io::read_full(0, &mut expected[0..m]);
+    let r = overlap_line::overlap(input, n, out);
+    io::write_all(1, overlap_line::front(head, 32));
+    if check::same(
+        overlap_line::written(out, r),
+        overlap_line::front(expected, m),
+    ) {
+        io::write_all(1, b"as expected\n");
+    } else {
+        io::write_all(1, b"DIFFERS\n");
+    }
+    true
+}
+
+// Runs the cases, of which there are at most 1,000.
+fn run_all(head: &mut [u8], input: &mut [u8], expected: &mut [u8], out: &mut [u8; 65792]) {
+    let mut left: usize = 1000;
+    while 0 < left {
+        if !run_case(head, input, expected, out) {
+            return;
+        }
+        left -= 1;
+    }
+}
+
+fn main() {
+    let mut head = [0u8; 40];
+    let mut input = room();
+    let mut expected = room();
+    let mut out = output_room();
+    run_all(&mut head, &mut input, &mut expected, &mut out);
+}

@@ -1,0 +1,116 @@
+-- Passing along a chain misses no record that fits.
+use Prim.Native.Nat.{ℕ, zero, suc, _+_, _-_, _*_, _/_, _%_, _<_, _≤_}
+use mathlib.Core.Path.{_≡_, refl, sym, _∙_, ap, ap₂}
+use mathlib.Core.List.{List, [], _∷_}
+use mathlib.Core.Bool.{Bool, true, false, cond, _&&_}
+use mathlib.Core.Logic.{_⊎_, inl, inr, ⊎-elim}
+use native.Mathlib.Numerals.{add-one}
+use native.Mathlib.Nat.{lt-irrefl}
+use native.Mathlib.Omega.{arith}
+use borrow.Author.Tests.{eqb-true, eqb-false, eq-eqb, ne-eqb}
+use borrow.Author.Count.{below-more, below-none}
+use lib.Dec.{eqb}
+use lib.ListN.{length, getD, set, length-set}
+use lib.Seq.{getD-set-same, getD-set-other}
+use Rattle.frames.specs.Frame.{recordOf}
+use Rattle.mates.specs.Register.{placeIn, nameIn, placeAt, nameAt, sameBytes, fits, holder}
+use Rattle.mates.specs.Table.{digestFrom, keyIn, Keyed, chainOf, lastIn, Chained}
+use Rattle.mates.proofs.NameLaws.{and-true, same-true}
+use Rattle.mates.proofs.KeyLaws.{place-small, holder-no}
+
+pub last-le : (key : List ℕ) (h n : ℕ) → lastIn key h n ≤ n
+unfolding lastIn
+last-le key h zero = omega arith
+last-le key h (suc n) = go (last-le key h n) (eqb (chainOf (getD key n 0)) h)
+  where
+    go : lastIn key h n ≤ n → (t : Bool) → cond t (suc n) (lastIn key h n) ≤ suc n
+    go up true = omega arith
+    go up false = omega arith
+
+-- what the last of a chain is of
+pub last-of : (key : List ℕ) (h n j : ℕ) → lastIn key h n ≡ suc j → chainOf (getD key j 0) ≡ h
+unfolding lastIn
+last-of key h zero j e = absurd (omega arith)
+last-of key h (suc n) j e = go (last-of key h n j) (eqb (chainOf (getD key n 0)) h) refl e
+  where
+    go : (lastIn key h n ≡ suc j → chainOf (getD key j 0) ≡ h) → (t : Bool) → eqb (chainOf (getD key n 0)) h ≡ t → cond t (suc n) (lastIn key h n) ≡ suc j → chainOf (getD key j 0) ≡ h
+    go up true f g = let z : j ≡ n = omega arith in ap (λ (k : ℕ). chainOf (getD key k 0)) z ∙ eqb-true _ _ f
+    go up false f g = up g
+
+-- records that fit are of one chain
+pub fits-chain : (x y : List ℕ) (kx ky q : ℕ) → kx ≡ keyIn x → ky ≡ keyIn y → (eqb (placeIn x) q && sameBytes (nameIn x) (nameIn y)) ≡ true → chainOf kx ≡ chainOf ky
+unfolding keyIn
+fits-chain x y kx ky q ex ey t =
+    let p = and-true (eqb (placeIn x) q) (sameBytes (nameIn x) (nameIn y)) t in
+    let e : kx / 4 ≡ ky / 4 = omega (arith, ex, ey, place-small x, place-small y, ap (digestFrom 0) (same-true (nameIn x) (nameIn y) (p .1))) in
+    ap (λ (z : ℕ). z % 256) e
+
+module _ (s key : List ℕ) (n : ℕ) (u : Keyed s key n) (q i : ℕ) (below : i < n) where
+  abbrev h : ℕ
+  h = chainOf (getD key i 0)
+
+  pub passed : (m : ℕ) → m ≤ n → holder (placeAt s) (nameAt s) q (nameAt s i) (lastIn key (chainOf (getD key i 0)) m) ≡ holder (placeAt s) (nameAt s) q (nameAt s i) m
+  unfolding lastIn holder
+  passed zero l = refl
+  passed (suc m) l = go (passed m (omega arith)) (eqb (chainOf (getD key m 0)) h) refl
+    where
+      not-it : (v : Bool) → fits (placeAt s) (nameAt s) q (nameAt s i) m ≡ v → eqb (chainOf (getD key m 0)) h ≡ false → v ≡ false
+      not-it true f e = absurd (eqb-false (chainOf (getD key m 0)) h e (fits-chain (recordOf s m) (recordOf s i) (getD key m 0) (getD key i 0) q (u .keys m (omega arith)) (u .keys i below) f))
+      not-it false f e = refl
+
+      go : holder (placeAt s) (nameAt s) q (nameAt s i) (lastIn key h m) ≡ holder (placeAt s) (nameAt s) q (nameAt s i) m → (t : Bool) → eqb (chainOf (getD key m 0)) h ≡ t
+          → holder (placeAt s) (nameAt s) q (nameAt s i) (cond t (suc m) (lastIn key h m)) ≡ holder (placeAt s) (nameAt s) q (nameAt s i) (suc m)
+      go up true e = refl
+      go up false e = up ∙ ap (λ (t : Bool). cond t (suc m) (holder (placeAt s) (nameAt s) q (nameAt s i) m)) (sym (not-it (fits (placeAt s) (nameAt s) q (nameAt s i) m) refl e))
+
+-- the first k records are linked
+pub linked-start : (key head next : List ℕ) → 256 ≤ length head → 256 ≤ length next → ((h : ℕ) → h < 256 → getD head h 0 ≡ 0) → Chained key head next 0
+unfolding lastIn
+linked-start key head next l m z = record { wide = l; long = m; heads = z; links = below-none _ }
+
+pub linked-next : (key head next : List ℕ) (k h : ℕ) → Chained key head next k → k < 256 → h ≡ chainOf (getD key k 0) → h < 256 → Chained key (set head h (k + 1)) (set next k (getD head h 0)) (k + 1)
+unfolding lastIn
+linked-next key head next k h c r e b = record {
+  wide = rw length-set (c .wide);
+  long = rw length-set (c .long);
+  heads = λ j l. rw add-one (at j l (eqb (chainOf (getD key k 0)) j) refl);
+  links = below-more _ k
+      (λ j l. getD-set-other next k j (getD head h 0) 0 (λ w. lt-irrefl k (rw w at l)) ∙ c .links j l)
+      (getD-set-same next k (getD head h 0) 0 (omega (arith, c .long)) ∙ c .heads h b ∙ ap (λ (z : ℕ). lastIn key z k) e);
+}
+  where
+    at : (j : ℕ) → j < 256 → (t : Bool) → eqb (chainOf (getD key k 0)) j ≡ t → getD (set head h (suc k)) j 0 ≡ cond t (suc k) (lastIn key j k)
+    at j l true f =
+        let z : j ≡ h = sym (eqb-true _ _ f) ∙ sym e in
+        ap (λ (w : ℕ). getD (set head h (suc k)) w 0) z ∙ getD-set-same head h (suc k) 0 (omega (arith, c .wide))
+    at j l false f = getD-set-other head h j (suc k) 0 (λ w. eqb-false _ _ f (sym e ∙ sym w)) ∙ c .heads j l
+
+pub record Walking (s key : List ℕ) (n q i c : ℕ) : Type 0 where
+  pub low : c ≤ n
+  pub chain : (j : ℕ) → c ≡ suc j → chainOf (getD key j 0) ≡ chainOf (getD key i 0)
+  pub left : holder (placeAt s) (nameAt s) q (nameAt s i) c ≡ holder (placeAt s) (nameAt s) q (nameAt s i) n
+
+module _ (s key : List ℕ) (n : ℕ) (u : Keyed s key n) (q i : ℕ) (below : i < n) where
+  pub walking-start : (c h : ℕ) → h ≡ chainOf (getD key i 0) → c ≡ lastIn key h n → Walking s key n q i c
+  walking-start c h eh e = record {
+    low = omega (arith, e, last-le key h n);
+    chain = λ j f. last-of key h n j (sym e ∙ f) ∙ eh;
+    left = ap (holder (placeAt s) (nameAt s) q (nameAt s i)) (e ∙ ap (λ (z : ℕ). lastIn key z n) eh) ∙ passed s key n u q i below n (omega arith);
+  }
+
+  module _ (c : ℕ) (w : Walking s key n q i c) (some : c ≡ 0 → ⊥) where
+    pub is-suc : c ≡ suc (c - 1)
+    is-suc = omega arith
+
+    pub walking-next : (r : Bool) (d : ℕ) → r ≡ fits (placeAt s) (nameAt s) q (nameAt s i) (c - 1) → r ≡ false → d ≡ lastIn key (chainOf (getD key (c - 1) 0)) (c - 1) → Walking s key n q i d
+    walking-next r d e f g =
+        let b : chainOf (getD key (c - 1) 0) ≡ chainOf (getD key i 0) = w .chain (c - 1) is-suc in
+        let g′ : d ≡ lastIn key (chainOf (getD key i 0)) (c - 1) = g ∙ ap (λ (z : ℕ). lastIn key z (c - 1)) b in
+        record {
+          low = omega (arith, g, last-le key (chainOf (getD key (c - 1) 0)) (c - 1), w .low);
+          chain = λ j h. last-of key (chainOf (getD key i 0)) (c - 1) j (sym g′ ∙ h);
+          left = ap (holder (placeAt s) (nameAt s) q (nameAt s i)) g′
+              ∙ passed s key n u q i below (c - 1) (omega (arith, w .low))
+              ∙ holder-no (placeAt s) (nameAt s) q (nameAt s i) c (omega arith) r e f
+              ∙ w .left;
+        }

@@ -1,0 +1,6 @@
+pub mod NameLaws
+pub mod KeyLaws
+pub mod ChainLaws
+pub mod OnceLaws
+pub mod MateLaws
+pub mod TableLaws

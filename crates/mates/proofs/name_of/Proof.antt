@@ -1,0 +1,30 @@
+-- `mates::name_of` meets its contract. Assumes nothing.
+use mathlib.Core.Path.{ap}
+use Rattle.frames.specs.Part.{part}
+use Rattle.mates.specs.Register.{nameIn}
+use denote.Ref.{now}
+use borrow.Author.Needs.{needs}
+use Rattle.mates.proofs.name_of.Statement.{statement}
+use Rattle.mates.proofs.name_of.Tie as tie
+
+name-end-requires : tie.Need-name-end-requires
+name-end-requires c κs = search needs
+
+sub-result : tie.Need-sub-result
+sub-result c = search needs
+
+part-result-start : tie.Need-part-result-start
+part-result-start c = search needs
+
+part-result-end : tie.Need-part-result-end
+part-result-end c = search needs
+
+returns : tie.Need-returns
+unfolding nameIn
+returns c =
+    let args = c .before .before .before .args in
+    ap (part (now (args .r)) 32) (c .before .name-end .ensures .0)
+
+pub name-of-spec : {M : Type 1} → statement M
+name-of-spec =
+    tie.close (tie.spec name-end-requires sub-result part-result-start part-result-end returns)

@@ -1,0 +1,65 @@
+-- Who is paired with whom.
+use Prim.Native.Nat.{ℕ, zero, suc, _+_, _-_}
+use mathlib.Core.Bool.{Bool, true, false, cond, _&&_, _||_}
+use mathlib.Core.List.{List, [], _∷_}
+use lib.Dec.{eqb}
+use Rattle.fields.specs.Flag.{hasBit}
+use Rattle.fields.specs.Layout.{header}
+use Rattle.frames.specs.Part.{part}
+use Rattle.frames.specs.Frame.{recordOf}
+
+-- the place that flags register: none (0) with 256 or 2048; with 64 first (1), even if 128 is set; else with 128 last (2); else none
+unfoldable pub placeBy : ℕ → ℕ
+placeBy f = cond (hasBit f 256 || hasBit f 2048) 0 (cond (hasBit f 64) 1 (cond (hasBit f 128) 2 0))
+
+unfoldable pub placeIn : List ℕ → ℕ
+placeIn r = placeBy (header r .flags)
+
+-- the name: its length minus 1 bytes from 32 on, none for the lengths 0 and 1
+unfoldable pub nameIn : List ℕ → List ℕ
+nameIn r = part r 32 (32 + (header r .nameLength - 1))
+
+-- of record k of the group s
+abbrev pub placeAt : List ℕ → ℕ → ℕ
+placeAt s k = placeIn (recordOf s k)
+
+abbrev pub nameAt : List ℕ → ℕ → List ℕ
+nameAt s k = nameIn (recordOf s k)
+
+-- names compare by their bytes
+abbrev pub sameBytes : List ℕ → List ℕ → Bool
+sameBytes [] [] = true
+sameBytes [] (b ∷ y) = false
+sameBytes (a ∷ x) [] = false
+sameBytes (a ∷ x) (b ∷ y) = eqb a b && sameBytes x y
+
+-- below, P and N give the place and the name of each record
+-- whether record k is of place q and name x
+abbrev pub fits : (ℕ → ℕ) → (ℕ → List ℕ) → ℕ → List ℕ → ℕ → Bool
+fits P N q x k = eqb (P k) q && sameBytes (N k) x
+
+-- one more than the index of the record, of the first n, that has the registration of place q and name x: the last of that
+-- place and name, as a later record takes an earlier one's; 0: none
+unfoldable pub holder : (ℕ → ℕ) → (ℕ → List ℕ) → ℕ → List ℕ → ℕ → ℕ
+holder P N q x zero = 0
+holder P N q x (suc n) = cond (fits P N q x n) (suc n) (holder P N q x n)
+
+-- one more than the index of the last that is paired with record i, where i has a first's registration; 0: none
+unfoldable pub mateOf : (ℕ → ℕ) → (ℕ → List ℕ) → ℕ → ℕ → ℕ
+mateOf P N n i = cond (eqb (P i) 1 && eqb (holder P N 1 (N i) n) (suc i)) (holder P N 2 (N i) n) 0
+
+abbrev pub mateCons : ℕ → ℕ → List (ℕ × ℕ) → List (ℕ × ℕ)
+mateCons i zero l = l
+mateCons i (suc j) l = (i, j) ∷ l
+
+-- the pairs (first, last) that f gives for the m records from i on, in order of the first's index
+unfoldable pub pairsFrom : (ℕ → ℕ) → ℕ → ℕ → List (ℕ × ℕ)
+pairsFrom f i zero = []
+pairsFrom f i (suc m) = mateCons i (f i) (pairsFrom f (suc i) m)
+
+-- of the n records of the group s
+abbrev pub matesOf : List ℕ → ℕ → ℕ → ℕ
+matesOf s n = mateOf (placeAt s) (nameAt s) n
+
+abbrev pub pairsOf : List ℕ → ℕ → List (ℕ × ℕ)
+pairsOf s n = pairsFrom (matesOf s n) 0 n

@@ -1,0 +1,45 @@
+-- What the tables hold by which mates are found.
+use Prim.Native.Nat.{ℕ, zero, suc, _+_, _*_, _/_, _%_, _<_, _≤_}
+use mathlib.Core.Bool.{cond}
+use mathlib.Core.List.{List, [], _∷_}
+use mathlib.Core.Path.{_≡_}
+use lib.Dec.{eqb}
+use lib.ListN.{length, getD}
+use Rattle.frames.specs.Frame.{recordOf}
+use Rattle.mates.specs.Register.{placeIn, nameIn, matesOf}
+
+-- a digest of a name, below 2 ^ 62
+abbrev pub mixOf : ℕ → ℕ → ℕ
+mixOf h b = h % 274877906944 * 16777213 + b
+
+unfoldable pub digestFrom : ℕ → List ℕ → ℕ
+digestFrom h [] = h
+digestFrom h (b ∷ l) = digestFrom (mixOf h b) l
+
+-- records of one name and place have one key
+unfoldable pub keyIn : List ℕ → ℕ
+keyIn r = digestFrom 0 (nameIn r) * 4 + placeIn r
+
+pub record Keyed (s key : List ℕ) (n : ℕ) : Type 0 where
+  pub wide : 256 ≤ length key
+  pub keys : (k : ℕ) → k < n → getD key k 0 ≡ keyIn (recordOf s k)
+
+-- records are chained by their name's digest: each links to the one before it in its chain
+abbrev pub chainOf : ℕ → ℕ
+chainOf d = d / 4 % 256
+
+-- one more than the last, of the first n records, that is of chain h; 0: none
+unfoldable pub lastIn : List ℕ → ℕ → ℕ → ℕ
+lastIn key h zero = 0
+lastIn key h (suc n) = cond (eqb (chainOf (getD key n 0)) h) (suc n) (lastIn key h n)
+
+pub record Chained (key head next : List ℕ) (n : ℕ) : Type 0 where
+  pub wide : 256 ≤ length head
+  pub long : 256 ≤ length next
+  pub heads : (h : ℕ) → h < 256 → getD head h 0 ≡ lastIn key h n
+  pub links : (k : ℕ) → k < n → getD next k 0 ≡ lastIn key (chainOf (getD key k 0)) k
+
+-- one more than the index of each record's mate; 0: none
+pub record Mated (s mate : List ℕ) (n : ℕ) : Type 0 where
+  pub wide : 256 ≤ length mate
+  pub mates : (k : ℕ) → k < n → getD mate k 0 ≡ matesOf s n k

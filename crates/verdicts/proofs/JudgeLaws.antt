@@ -1,0 +1,84 @@
+-- A pair judged, by what the code finds; and one turn of the loop over the pairs.
+use Prim.Native.Nat.{ℕ, zero, suc, _+_, _-_, _<_, _≤_}
+use mathlib.Core.Path.{_≡_, refl, sym, ap, _∙_}
+use mathlib.Core.List.{List, [], _∷_}
+use native.Mathlib.Numerals.{add-one}
+use native.Mathlib.Omega.{arith}
+use Rattle.refusal.specs.declared.Refusal.{Refusal}
+use Rattle.fields.specs.declared.Layout.{Layout}
+use Rattle.fields.specs.declared.Checked.{Checked}
+use Rattle.fields.specs.declared.Checked.the-variants.{Good, Bad}
+use Rattle.fields.specs.Check.{checkOf}
+use Rattle.judgement.specs.declared.Judged.{Judged}
+use Rattle.judgement.specs.Judgement.{judgedOf}
+use Rattle.mates.specs.Register.{placeAt, nameAt, matesOf, mateCons, pairsFrom}
+use Rattle.mates.proofs.OnceLaws.{mate-below}
+use Rattle.verdicts.specs.declared.Verdict.{Verdict}
+use Rattle.verdicts.specs.declared.Verdict.the-variants.{Passed, Refused}
+use Rattle.verdicts.specs.Judged.{onVerdict, judgeBy}
+use Rattle.verdicts.specs.Indexed.{onGood, ofChecked, ofJudged, indexedOf}
+
+-- ---- one pair
+module _ (a b : List ℕ) (i j : ℕ) where
+  pub first-bad : (k : Checked) (r : Refusal) → k ≡ checkOf a i → k ≡ Bad r → ofChecked k ≡ indexedOf a b i j
+  unfolding indexedOf
+  first-bad k r e f = ap ofChecked f ∙ rw (sym e ∙ f)
+
+  module _ (y : Layout) (good : checkOf a i ≡ Good y) where
+    pub second-bad : (k : Checked) (r : Refusal) → k ≡ checkOf b j → k ≡ Bad r → ofChecked k ≡ indexedOf a b i j
+    unfolding indexedOf
+    second-bad k r e f = ap ofChecked f ∙ rw (good, sym e ∙ f)
+
+    pub both-judged : (z : Layout) (k k′ : Judged) → checkOf b j ≡ Good z → k ≡ judgedOf y z a b i j → k ≡ k′ → ofJudged k′ ≡ indexedOf a b i j
+    unfolding indexedOf
+    both-judged z k k′ g e f = ap ofJudged (sym f ∙ e) ∙ rw (good, g)
+
+-- ---- the pairs from record i on, by the mate of record i
+pub pairs-turn : (f : ℕ → ℕ) (n i m : ℕ) → i < n → m ≡ f i → pairsFrom f i (n - i) ≡ mateCons i m (pairsFrom f (i + 1) (n - (i + 1)))
+unfolding pairsFrom
+pairs-turn f n i m h e =
+    let u : n - i ≡ suc (n - (i + 1)) = omega arith in
+    ap (pairsFrom f i) u ∙ ap (λ (z : ℕ). mateCons i z (pairsFrom f (suc i) (n - (i + 1)))) (sym e)
+    ∙ ap (λ (z : ℕ). mateCons i m (pairsFrom f z (n - (i + 1)))) (sym (add-one i))
+
+pub pairs-end : (f : ℕ → ℕ) (n i : ℕ) → n ≤ i → pairsFrom f i (n - i) ≡ []
+unfolding pairsFrom
+pairs-end f n i h = let z : n - i ≡ 0 = omega arith in ap (pairsFrom f i) z
+
+pub pairs-start : (f : ℕ → ℕ) (n : ℕ) → pairsFrom f 0 (n - 0) ≡ pairsFrom f 0 n
+pairs-start f n = let z : n - 0 ≡ n = omega arith in ap (pairsFrom f 0) z
+
+-- a mate is a record of the group
+pub mate-in : (s : List ℕ) (n i m : ℕ) → m ≡ matesOf s n i → (m ≡ 0 → ⊥) → m - 1 < n
+mate-in s n i m e h =
+    let u : m ≡ suc (m - 1) = omega arith in
+    mate-below (placeAt s) (nameAt s) n i (m - 1) (sym e ∙ u)
+
+-- ---- what is left to judge gives what all give
+abbrev pub Left : (ℕ → ℕ → Verdict) → (ℕ → ℕ) → ℕ → ℕ → Type 0
+Left v f n i = judgeBy v (pairsFrom f i (n - i)) ≡ judgeBy v (pairsFrom f 0 n)
+
+pub left-start : (v : ℕ → ℕ → Verdict) (f : ℕ → ℕ) (n : ℕ) → Left v f n 0
+left-start v f n = ap (judgeBy v) (pairs-start f n)
+
+pub left-end : (v : ℕ → ℕ → Verdict) (f : ℕ → ℕ) (n i : ℕ) → Left v f n i → n ≤ i → Passed ≡ judgeBy v (pairsFrom f 0 n)
+unfolding judgeBy
+left-end v f n i l h = sym (ap (judgeBy v) (pairs-end f n i h)) ∙ l
+
+module _ (v : ℕ → ℕ → Verdict) (f : ℕ → ℕ) (n i : ℕ) (l : Left v f n i) (below : i < n) (m : ℕ) (e : m ≡ f i) where
+  pub left-alone : m ≡ 0 → Left v f n (i + 1)
+  left-alone z = sym (ap (judgeBy v) (pairs-turn f n i m below e ∙ ap (λ (x : ℕ). mateCons i x (pairsFrom f (i + 1) (n - (i + 1)))) z)) ∙ l
+
+  module _ (some : m ≡ 0 → ⊥) (r r′ : Verdict) (d : r ≡ v i (m - 1)) (d′ : r ≡ r′) where
+    turn : onVerdict r′ (judgeBy v (pairsFrom f (i + 1) (n - (i + 1)))) ≡ judgeBy v (pairsFrom f 0 n)
+    unfolding judgeBy
+    turn =
+        let u : m ≡ suc (m - 1) = omega arith in
+        ap (λ (x : Verdict). onVerdict x (judgeBy v (pairsFrom f (i + 1) (n - (i + 1))))) (sym d′ ∙ d)
+        ∙ sym (ap (judgeBy v) (pairs-turn f n i m below e ∙ ap (λ (x : ℕ). mateCons i x (pairsFrom f (i + 1) (n - (i + 1)))) u)) ∙ l
+
+    pub left-passed : r′ ≡ Passed → Left v f n (i + 1)
+    left-passed h = ap (λ (x : Verdict). onVerdict x (judgeBy v (pairsFrom f (i + 1) (n - (i + 1))))) (sym h) ∙ turn
+
+    pub left-refused : (q : Refusal) → r′ ≡ Refused q → Refused q ≡ judgeBy v (pairsFrom f 0 n)
+    left-refused q h = ap (λ (x : Verdict). onVerdict x (judgeBy v (pairsFrom f (i + 1) (n - (i + 1))))) (sym h) ∙ turn

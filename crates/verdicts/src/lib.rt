@@ -1,0 +1,85 @@
+// The pairs of a group judged, each from the bytes given, before any is written.
+use fields::Checked;
+use judgement::Judged;
+use refusal::Refusal;
+ghost use mathlib.Core.Path.{_≡_};
+ghost use Prim.Native.Nat.{_<_};
+ghost use lib.ListN.{length};
+ghost use Rattle.frames.specs.Table.{Placed};
+ghost use Rattle.mates.specs.Register.{pairsOf};
+ghost use Rattle.mates.specs.Table.{Mated};
+ghost use Rattle.verdicts.specs.Indexed.{ofChecked, indexedOf, indexedAt};
+ghost use Rattle.verdicts.specs.Judged.{judgeBy};
+
+// Whether pairs may be treated, or the refusal of the first that may not.
+pub enum Verdict {
+    Passed,
+    Refused(Refusal),
+}
+
+// A record that is not good, as the verdict on its pair.
+fn unchecked(c: Checked) -> Verdict
+    ensures { λ r. ⌜ r ≡ ofChecked c ⌝ }
+{
+    match c {
+        Checked::Good(_) => Verdict::Passed,
+        Checked::Bad(r) => Verdict::Refused(r),
+    }
+}
+
+// Two records judged as a pair; a refusal names the index of the record at fault.
+fn judge_pair(first: &[u8], second: &[u8], i: u16, j: u16) -> Verdict
+    ensures { λ r. ⌜ r ≡ indexedOf (now (first .entry)) (now (second .entry)) i j ⌝ }
+{
+    let checked1 = fields::check_record(first, i);
+    let Checked::Good(y) = checked1 else {
+        return unchecked(checked1);
+    };
+    let checked2 = fields::check_record(second, j);
+    let Checked::Good(z) = checked2 else {
+        return unchecked(checked2);
+    };
+    let judged = judgement::judge(first, second, y, z, i, j);
+    match judged {
+        Judged::Refused(r) => Verdict::Refused(r),
+        Judged::Apart => Verdict::Passed,
+        Judged::Both(_, _) => Verdict::Passed,
+    }
+}
+
+// Records i and j of a group judged as a pair.
+fn judge_at(s: &[u8], begins: &[usize], n: usize, i: usize, j: usize) -> Verdict
+    requires { ⌜ Placed (now s) (now begins) n × (i < n) × (j < n) ⌝ }
+    ensures { λ r. ⌜ r ≡ indexedAt (now (s .entry)) i j ⌝ }
+{
+    let start = begins[i] + 4;
+    let end = begins[i + 1];
+    let mate_start = begins[j] + 4;
+    let mate_end = begins[j + 1];
+    judge_pair(&s[start..end], &s[mate_start..mate_end], i as u16, j as u16)
+}
+
+// Every pair judged, in order of the first's index.
+pub fn judge_all(s: &[u8], begins: &[usize], n: usize, mate: &[usize]) -> Verdict
+    requires { ⌜ Placed (now s) (now begins) n × Mated (now s) (now mate) n ⌝ }
+    ensures { λ r. ⌜ r ≡ judgeBy (indexedAt (now (s .entry))) (pairsOf (now (s .entry)) n) ⌝ }
+{
+    let mut i: usize = 0;
+    while i < n {
+        let m = mate[i];
+        if m == 0 {
+            i += 1;
+        } else {
+            let v = judge_at(s, begins, n, i, m - 1);
+            match v {
+                Verdict::Passed => {
+                    i += 1;
+                }
+                Verdict::Refused(r) => {
+                    return Verdict::Refused(r);
+                }
+            }
+        }
+    }
+    Verdict::Passed
+}
