@@ -1,9 +1,9 @@
 /*
  * overlap.h: the overlap-consensus step on a pair of BAM records.
  *
- * overlap_call takes the two records of a read pair. Wherever both have a base at the same
- * reference position, it lets the two bases decide together: it writes the agreed base and
- * quality into both records, in place, and counts what it did.
+ * overlap_call takes the two records of a read pair. At each reference position where both have
+ * a base it compares the two, writes the bases and qualities that the strategies give into both
+ * records, in place, and counts what it did.
  *
  * Link with liboverlap_c.a (`rt staticlib overlap_c` writes target/staticlib/liboverlap_c.a).
  */
@@ -33,19 +33,24 @@ extern "C" {
  *                   The call adds to what stands there, so begin with 32 zero bytes. The largest
  *                   count that is accepted is 18446744073692774399.
  *
- * Base codes are compared as codes: `=` agrees with `=` alone, an ambiguity code with itself alone.
+ * overlapping counts the positions that were compared, agreeing and disagreeing what was found
+ * there. corrected grows by 1 where the bases agree and either quality changed; by 2 where they
+ * disagree, but only by 1 where just one of them was masked.
+ *
+ * Bases are compared as codes: `=` agrees with `=` alone, and an ambiguity code with itself alone.
  * Where either base is N, the position is left alone and not counted.
  *
  * Answer
  *
- *   0      no overlap: the records have no reference position in common, or one of them is
- *          unmapped (flag 4) or has a negative position, or their reference ids differ
- *          (two ids of -1 are equal)
- *   1      overlap: some position is shared, even if each of them holds an N
+ *   0      no overlap: at no reference position do both have a base, or one of them is unmapped
+ *          (flag 4) or has a negative position, or their reference ids differ (two ids of -1 are
+ *          equal)
+ *   1      overlap: they share a position, even where every shared position holds an N
  *   other  refused: 1000 + 100 * place + number. The place is 1 or 2 for the record at fault, and
- *          0 where no record is. So 1107 is number 7 in the first record, and these are all:
+ *          0 where no record is. So 1107 is number 7 in the first record. These are all, each
+ *          given exactly when its words hold and nothing before it in the order below applies:
  *
- *          number  answers     refused exactly when
+ *          number  answers     when
  *           1      1101 1201   the record is under 32 bytes
  *           2      1102 1202   the record is over 65536 bytes
  *           3      1103 1203   its name and operations reach past its end
@@ -80,8 +85,8 @@ extern "C" {
  *   The two records and the counts must not overlap in memory: that is the caller's to see to, and
  *   is not checked. Each pointer must be good for reads and writes of as many bytes as its length
  *   says. No alignment is asked for. A length may be 0: nothing is then read or written through
- *   that pointer. Pass a pointer that is not null there too: the other side takes a pointer and
- *   a length for a slice, whose pointer is never null.
+ *   that pointer. Let it be other than null there too: the callee takes a pointer and a length for
+ *   a slice, as Rust does, and the pointer of a slice is not null even where the slice is empty.
  *
  *   The call allocates nothing, keeps nothing between calls and has no global state. Any number of
  *   threads may call it at the same time, as long as no two of them pass the same memory.

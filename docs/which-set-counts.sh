@@ -1,0 +1,94 @@
+#!/bin/sh
+# Runs the incident of WHICH-SET-COUNTS.md through the program and prints what the page shows.
+#   docs/which-set-counts.sh           prints
+#   docs/which-set-counts.sh --check   prints, and compares with the page
+set -eu
+. "$(dirname "$0")/../scripts/settings.sh"
+need_program
+work=$(mktemp -d)
+trap 'rm -rf "$work"' EXIT
+
+bytes() { for h; do printf "\\$(printf %03o "0x$h")"; done; }
+
+# A group of two reads named "a", both 4M at position 10: bases and qualities of the first and
+# of the second, each as six bytes.
+group() { # FILE FIRST SECOND
+    core='0 0 0 0 9 0 0 0 2 3C 49 12 1 0'
+    rest='4 0 0 0 0 0 0 0 9 0 0 0 4 0 0 0 61 0 40 0 0 0'
+    { bytes 2C 0 0 0 $core 41 0 $rest $2; bytes 2C 0 0 0 $core 81 0 $rest $3; } >"$work/$1"
+}
+
+# One run of the step (Consensus for both): reads a set, writes the next, prints the program's line.
+step() { # FROM TO
+    { printf 00; cat "$work/$1"; } | "$PROGRAM" >"$work/out"
+    line=$(LC_ALL=C head -n 1 "$work/out" | tr -d '\0')
+    tail -c +$((${#line} + 2)) "$work/out" >"$work/$2"
+    printf '%s' "$line"
+}
+
+# Bases and qualities of both reads of a set.
+show() { # FILE
+    for read in 0 1; do
+        set -- "$1" $(od -An -v -tu1 -j $((48 * read + 42)) -N 6 "$work/$1")
+        b1=$2 b2=$3
+        printf '   '
+        for base in $((b1 / 16)),$4 $((b1 % 16)),$5 $((b2 / 16)),$6 $((b2 % 16)),$7; do
+            letter=$(printf '=ACMGRSVTWYHKDBN' | cut -c $((${base%,*} + 1)))
+            printf '  %s %2d' "$letter" "${base#*,}"
+        done
+    done
+    echo
+}
+
+compare() { # FILE FILE WORDS
+    if cmp -s "$work/$1" "$work/$2"; then echo "$3: the same, byte for byte"; else echo "$3: different"; fi
+}
+
+tell() {
+    echo 'The incident: the step run on its own output'
+    echo '                first read                 second read                the program says'
+    group raw '12 81 C 1E 1E 14' '12 42 C A 14 14'
+    printf 'raw        '; show raw | tr -d '\n'; echo
+    from=raw
+    for to in one two three four; do
+        line=$(step $from $to)
+        printf '%-11s' "$to run$([ $to = one ] || printf s)"; show $to | tr -d '\n'; echo "    $line"
+        from=$to
+    done
+    echo
+    echo 'From the three sets alone: their order'
+    for pair in 'one two 24 48' 'two three 48 93' 'one three 24 93' 'three two 93 48'; do
+        set -- $pair
+        step $1 next >"$work/line"
+        compare next $2 "  the set with $3, run once more, against the set with $4"
+    done
+    echo
+    echo 'With the raw set: which one had a single run'
+    step raw next >"$work/line"
+    for pair in 'one 24' 'two 48' 'three 93'; do
+        set -- $pair
+        compare next $1 "  the raw set, run once, against the set with $2"
+    done
+    echo
+    echo 'What the bytes cannot tell: a 24 from one run, and a 24 from two'
+    group twelve '11 11 C C C C' '11 11 C C C C'
+    group six '11 11 6 6 6 6' '11 11 6 6 6 6'
+    step twelve twelve_once >"$work/line"
+    step six six_once >"$work/line"
+    step six_once six_twice >"$work/line"
+    compare twelve_once six_twice '  12 and 12, run once, against 6 and 6, run twice'
+}
+
+tell | tee "$work/told"
+[ "${1:-}" = --check ] || exit 0
+page=$root/docs/WHICH-SET-COUNTS.md
+# the page spreads the same lines over its sections
+sed -n '/^```text$/,/^```$/p' "$page" | sed '/^```/d' >"$work/page"
+sed '/^$/d' "$work/told" >"$work/lines"
+if cmp -s "$work/lines" "$work/page"; then
+    echo "WHICH-SET-COUNTS.md shows what the program does"
+else
+    echo "WHICH-SET-COUNTS.md shows something else:"
+    diff "$work/page" "$work/lines"
+    exit 1
+fi

@@ -1,0 +1,45 @@
+/* host.c: calls the overlap step on one read pair and prints both reads before and after. */
+#include "overlap.h"
+#include <stdio.h>
+
+/* Two records as BAM has them, without their size fields. Both are named "a" and have one
+   operation, 4M; the first starts at position 10 (counted from 1), the second at 11. */
+static uint8_t first[] = {
+    0, 0, 0, 0,  9, 0, 0, 0,  2, 60, 0x49, 0x12,  1, 0, 0x41, 0,      /* reference, pos, name length, mapq, bin, operations, flags */
+    4, 0, 0, 0,  0, 0, 0, 0,  10, 0, 0, 0,  5, 0, 0, 0,               /* l_seq, mate reference, mate pos, template length */
+    'a', 0,  0x40, 0, 0, 0,  0x12, 0x48,  30, 30, 30, 30 };           /* name, 4M, bases A C G T, qualities */
+static uint8_t second[] = {
+    0, 0, 0, 0,  10, 0, 0, 0,  2, 60, 0x49, 0x12,  1, 0, 0x81, 0,
+    4, 0, 0, 0,  0, 0, 0, 0,  9, 0, 0, 0,  0xFB, 0xFF, 0xFF, 0xFF,
+    'a', 0,  0x40, 0, 0, 0,  0x24, 0x11,  20, 30, 10, 40 };           /* bases C G A A */
+
+static void show(const char *when, const uint8_t *r) {
+    unsigned ops = r[12] + 256u * r[13], bases = r[16] + 256u * r[17];
+    const uint8_t *seq = r + 32 + r[8] + 4 * ops, *qual = seq + (bases + 1) / 2;
+    printf("%s", when);
+    for (unsigned i = 0; i < bases; i++)
+        printf("  %c %2u", "=ACMGRSVTWYHKDBN"[seq[i / 2] >> (i % 2 ? 0 : 4) & 15], qual[i]);
+    printf("\n");
+}
+
+static unsigned long long count(const uint8_t *p) {
+    unsigned long long n = 0;
+    for (int i = 7; i >= 0; i--) n = n * 256 + p[i];
+    return n;
+}
+
+int main(void) {
+    uint8_t counts[32] = { 0 };
+    show("first  before", first);
+    show("second before      ", second);
+    uint32_t answer = overlap_call(first, sizeof first, second, sizeof second, 0, 0, counts, sizeof counts);
+    show("first  after ", first);
+    show("second after       ", second);
+    if (answer > 1) {
+        printf("refused: number %u, place %u\n", answer % 100, (answer - 1000) / 100);
+        return 1;
+    }
+    printf("%s: %llu positions, %llu agreeing, %llu disagreeing, %llu corrected\n", answer ? "overlap" : "no overlap",
+           count(counts), count(counts + 8), count(counts + 16), count(counts + 24));
+    return 0;
+}

@@ -1,0 +1,37 @@
+//! A Rust host: calls the step on one pair and prints what came out.
+use overlap::{Agreement, Counts, Disagreement, call};
+
+fn main() {
+    // Four bases at positions 10 to 13 and four at 11 to 14, counted from 1.
+    let mut first = record(9, 65, [0x12, 0x48], [30, 30, 30, 30]);
+    let mut second = record(10, 129, [0x24, 0x11], [20, 30, 10, 40]);
+    let mut counts = Counts::default();
+
+    show("before", &first, &second);
+    let answer = call(&mut first, &mut second, Agreement::Consensus, Disagreement::Consensus, &mut counts);
+    show("after ", &first, &second);
+    println!("{answer:?}, {counts:?}");
+}
+
+/// A record named "a" with one operation, 4M, on reference 0.
+fn record(pos: i32, flags: u16, bases: [u8; 2], quals: [u8; 4]) -> Vec<u8> {
+    let mut r = vec![0; 32];
+    r[4..8].copy_from_slice(&pos.to_le_bytes());
+    r[8] = 2; // name length with its closing zero byte
+    r[12] = 1; // operation count
+    r[14..16].copy_from_slice(&flags.to_le_bytes());
+    r[16] = 4; // l_seq
+    r.extend(b"a\0");
+    r.extend((4u32 * 16).to_le_bytes());
+    r.extend(bases);
+    r.extend(quals);
+    r
+}
+
+/// Bases and qualities of both, the second one place to the right.
+fn show(when: &str, first: &[u8], second: &[u8]) {
+    let base = |r: &[u8], i: usize| b"=ACMGRSVTWYHKDBN"[usize::from(r[38 + i / 2] >> (4 - i % 2 * 4) & 15)] as char;
+    let line = |r: &[u8]| -> String { (0..4).map(|i| format!("  {} {:2}", base(r, i), r[40 + i])).collect() };
+    println!("first  {when}{}", line(first));
+    println!("second {when}      {}", line(second));
+}

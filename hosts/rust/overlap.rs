@@ -1,0 +1,130 @@
+//! The exported pair call for Rust programs. include/overlap.h says what it does to the bytes.
+//!
+//! Nothing is checked here that the call checks itself. What the types rule out before the call:
+//! the two records and the counts are borrowed mutably at once, so they can't overlap in memory;
+//! strategies are enums and counts are always 32 bytes, so refusals 10 and 15 can't come.
+
+/// The call as the archive has it.
+pub mod raw {
+    unsafe extern "C" {
+        pub fn overlap_call(
+            first: *mut u8,
+            first_len: usize,
+            second: *mut u8,
+            second_len: usize,
+            agreement: u32,
+            disagreement: u32,
+            counts: *mut u8,
+            counts_len: usize,
+        ) -> u32;
+    }
+}
+
+/// What equal bases at a shared position get.
+#[derive(Clone, Copy, Debug, PartialEq, Eq)]
+pub enum Agreement {
+    Consensus = 0,
+    MaxQual = 1,
+    PassThrough = 2,
+}
+
+/// What different bases at a shared position get.
+#[derive(Clone, Copy, Debug, PartialEq, Eq)]
+pub enum Disagreement {
+    Consensus = 0,
+    MaskBoth = 1,
+    MaskLowerQual = 2,
+}
+
+/// The four counts, added to by each call.
+#[derive(Clone, Copy, Debug, Default, PartialEq, Eq)]
+pub struct Counts {
+    pub overlapping: u64,
+    pub agreeing: u64,
+    pub disagreeing: u64,
+    pub corrected: u64,
+}
+
+/// What is wrong with a record: refusals 1 to 8.
+#[derive(Clone, Copy, Debug, PartialEq, Eq)]
+pub enum Fault {
+    Short,
+    Long,
+    NameAndOperations,
+    BasesAndQualities,
+    OperationCode,
+    OperationLength,
+    ReadTotal,
+    ReferenceEnd,
+}
+
+#[derive(Clone, Copy, Debug, PartialEq, Eq)]
+pub enum Answer {
+    /// Nothing was written.
+    NoOverlap,
+    /// Shared positions hold the result and the counts have grown.
+    Overlap,
+    /// Refused for the first record; nothing was written.
+    First(Fault),
+    /// Refused for the second record; nothing was written.
+    Second(Fault),
+    /// Refused (number 9) because a count leaves too little room; nothing was written.
+    CountTooLarge,
+}
+
+/// Calls the step on one pair.
+pub fn call(
+    first: &mut [u8],
+    second: &mut [u8],
+    agreement: Agreement,
+    disagreement: Disagreement,
+    counts: &mut Counts,
+) -> Answer {
+    let mut bytes = counts.to_bytes();
+    // SAFETY: each pointer comes with the length of its own live, exclusive borrow.
+    let code = unsafe {
+        raw::overlap_call(
+            first.as_mut_ptr(),
+            first.len(),
+            second.as_mut_ptr(),
+            second.len(),
+            agreement as u32,
+            disagreement as u32,
+            bytes.as_mut_ptr(),
+            bytes.len(),
+        )
+    };
+    *counts = Counts::from_bytes(&bytes);
+    match code {
+        0 => Answer::NoOverlap,
+        1 => Answer::Overlap,
+        1009 => Answer::CountTooLarge,
+        1101..=1108 => Answer::First(Fault::of(code - 1100)),
+        1201..=1208 => Answer::Second(Fault::of(code - 1200)),
+        _ => unreachable!("overlap_call answers no {code} here"),
+    }
+}
+
+impl Fault {
+    fn of(number: u32) -> Fault {
+        use Fault::*;
+        [Short, Long, NameAndOperations, BasesAndQualities, OperationCode, OperationLength, ReadTotal, ReferenceEnd]
+            [number as usize - 1]
+    }
+}
+
+impl Counts {
+    pub fn to_bytes(self) -> [u8; 32] {
+        let mut bytes = [0; 32];
+        let all = [self.overlapping, self.agreeing, self.disagreeing, self.corrected];
+        for (place, count) in bytes.chunks_exact_mut(8).zip(all) {
+            place.copy_from_slice(&count.to_le_bytes());
+        }
+        bytes
+    }
+
+    pub fn from_bytes(bytes: &[u8; 32]) -> Counts {
+        let at = |i: usize| u64::from_le_bytes(bytes[8 * i..8 * i + 8].try_into().unwrap());
+        Counts { overlapping: at(0), agreeing: at(1), disagreeing: at(2), corrected: at(3) }
+    }
+}

@@ -1,0 +1,242 @@
+/* htslib.c: Debian's htslib as an outside judge of the definitions.
+ *
+ *   htslib SEED PAIRS
+ *
+ * Random well-formed pairs go through overlap_call. The records before and after are written as
+ * two BAM files, and htslib reads both. Which base sits at which position comes from htslib's
+ * pileup, bases and qualities from its readers; from these the rule of document 01 is worked out
+ * and held against the bytes after the call, its answer and its counts. A second set has wrong
+ * operation lengths and positions near the end: refusal 7 must come exactly where htslib calls
+ * the lengths different, refusal 8 exactly where its end of the read is above 2,147,483,646.
+ */
+#include "overlap.h"
+#include <htslib/sam.h>
+#include <stdio.h>
+#include <stdlib.h>
+#include <string.h>
+
+enum { ROOM = 4096, SPAN = 4096, LAST = 2147483646 };
+typedef struct { uint8_t at[ROOM]; size_t len; } Rec;
+typedef struct { Rec rec[2], after[2]; uint32_t ways[2], answer; uint64_t grown[4]; } Pair;
+
+static void fail(long pair, const char *what) {
+    fprintf(stderr, "FOUND at pair %ld: %s\n", pair, what);
+    exit(1);
+}
+
+/* ---- seeded records ---- */
+
+static uint64_t state;
+static uint64_t below(uint64_t n) {
+    uint64_t z = state += 0x9E3779B97F4A7C15ull;
+    z = (z ^ z >> 30) * 0xBF58476D1CE4E5B9ull;
+    z = (z ^ z >> 27) * 0x94D049BB133111EBull;
+    return (z ^ z >> 31) % n;
+}
+static void put(Rec *r, uint64_t n, int width) {
+    for (; width--; n >>= 8) r->at[r->len++] = (uint8_t)n;
+}
+
+/* Clips around aligned stretches with one or two other operations between them. */
+static unsigned operations(uint32_t *ops) {
+    unsigned n = 0;
+    if (below(6) == 0) ops[n++] = (uint32_t)(1 + below(9)) << 4 | BAM_CHARD_CLIP;
+    if (below(3) == 0) ops[n++] = (uint32_t)(1 + below(9)) << 4 | BAM_CSOFT_CLIP;
+    unsigned stretches = 1 + (unsigned)below(4);
+    for (unsigned i = 0; i < stretches; i++) {
+        static const uint8_t aligned[] = { BAM_CMATCH, BAM_CMATCH, BAM_CEQUAL, BAM_CDIFF };
+        static const uint8_t between[] = { BAM_CINS, BAM_CDEL, BAM_CREF_SKIP, BAM_CPAD };
+        ops[n++] = (uint32_t)(1 + below(12)) << 4 | aligned[below(4)];
+        if (i + 1 < stretches) ops[n++] = (uint32_t)(1 + below(6)) << 4 | between[below(4)];
+    }
+    if (below(3) == 0) ops[n++] = (uint32_t)(1 + below(9)) << 4 | BAM_CSOFT_CLIP;
+    if (below(6) == 0) ops[n++] = (uint32_t)(1 + below(9)) << 4 | BAM_CHARD_CLIP;
+    return n;
+}
+
+/* A record as BAM has it; with damage, lengths that may not fit and positions near the end. */
+static void make(Rec *r, int second, int damage) {
+    uint32_t ops[16];
+    unsigned n = operations(ops), bases = (unsigned)bam_cigar2qlen((int)n, ops);
+    int64_t pos = 20 + (int64_t)below(12);
+    if (damage && below(3) == 0) ops[below(n)] += below(2) ? 16 : 32;
+    if (damage && below(2) == 0) pos = LAST - bam_cigar2rlen((int)n, ops) - 2 + (int64_t)below(5);
+    if (pos > INT32_MAX) pos = INT32_MAX;
+    r->len = 0;
+    put(r, 0, 4), put(r, (uint64_t)pos, 4), put(r, 3, 1), put(r, 60, 1), put(r, 4680, 2), put(r, n, 2);
+    put(r, (second ? 128 : 64) | below(4) | below(4) << 4, 2);
+    put(r, bases, 4), put(r, 0, 4), put(r, below(99), 4), put(r, below(99), 4);
+    put(r, 'p' | '1' << 8, 3);
+    for (unsigned i = 0; i < n; i++) put(r, ops[i], 4);
+    uint64_t few = below(3); /* mostly one letter, four letters, or all sixteen codes */
+    for (unsigned i = 0; i < (bases + 1) / 2; i++) {
+        uint64_t high = few == 2 ? below(16) : 1ull << (few ? below(4) : 0), low = few == 2 ? below(16) : 1ull << below(few + 1);
+        put(r, high << 4 | (2 * i + 1 < bases ? low : 0), 1);
+    }
+    uint64_t most = below(2) ? 94 : 256;
+    for (unsigned i = 0; i < bases; i++) put(r, below(most), 1);
+    put(r, 'N' | 'M' << 8 | 'C' << 16, 3), put(r, below(200), 1);
+}
+
+/* ---- what htslib reads ---- */
+
+static void write_bam(const char *path, Pair *pairs, long n, int after) {
+    FILE *f = fopen(path, "wb");
+    Rec head = { "BAM\1", 4 };
+    put(&head, 0, 4), put(&head, 1, 4), put(&head, 2, 4), put(&head, 'r', 2), put(&head, INT32_MAX, 4);
+    if (!f || fwrite(head.at, 1, head.len, f) != head.len) fail(0, "can't write");
+    for (long i = 0; i < 2 * n; i++) {
+        Rec *r = after ? &pairs[i / 2].after[i % 2] : &pairs[i / 2].rec[i % 2], size = { { 0 }, 0 };
+        put(&size, r->len, 4);
+        if (fwrite(size.at, 1, 4, f) != 4 || fwrite(r->at, 1, r->len, f) != r->len) fail(i / 2, "can't write");
+    }
+    if (fclose(f)) fail(0, "can't write");
+}
+
+static int feed(void *data, bam1_t *to) { /* one read, then the end */
+    bam1_t **from = data;
+    if (!*from || !bam_copy1(to, *from)) return -1;
+    *from = NULL;
+    return 0;
+}
+/* base index + 1 at each reference position, 0 where the read has no base */
+static void sits(bam1_t *b, uint32_t *at) {
+    int tid, n;
+    hts_pos_t pos;
+    const bam_pileup1_t *p;
+    memset(at, 0, SPAN * sizeof *at);
+    bam_plp_t plp = bam_plp_init(feed, &b);
+    while ((p = bam_plp64_auto(plp, &tid, &pos, &n)))
+        if (n == 1 && !p->is_del && !p->is_refskip && pos < SPAN) at[pos] = (uint32_t)p->qpos + 1;
+    bam_plp_destroy(plp);
+}
+
+/* ---- document 01's rule, worked out on what htslib read ---- */
+
+static void rule(bam1_t *x, bam1_t *y, const uint32_t *ways, uint32_t *answer, uint64_t *grown) {
+    static uint32_t in_x[SPAN], in_y[SPAN];
+    sits(x, in_x), sits(y, in_y);
+    *answer = 0;
+    for (int pos = 0; pos < SPAN; pos++) {
+        if (!in_x[pos] || !in_y[pos]) continue;
+        *answer = 1;
+        uint32_t i = in_x[pos] - 1, j = in_y[pos] - 1;
+        int p = bam_seqi(bam_get_seq(x), i), q = bam_seqi(bam_get_seq(y), j);
+        uint8_t *a = bam_get_qual(x) + i, *b = bam_get_qual(y) + j;
+        int u = *a, v = *b, corrected = 0;
+        if (seq_nt16_str[p] == 'N' || seq_nt16_str[q] == 'N') continue;
+        if (p == q) {
+            int sum = u + v > 93 ? 93 : u + v, larger = u > v ? u : v, to = ways[0] == 0 ? sum : larger;
+            if (ways[0] < 2) corrected = to != u || to != v, *a = (uint8_t)to, *b = (uint8_t)to;
+        } else if (ways[1] == 0 && u != v) {
+            int winner = u > v ? p : q, by = abs(u - v) < 2 ? 2 : abs(u - v);
+            bam_set_seqi(bam_get_seq(x), i, winner), bam_set_seqi(bam_get_seq(y), j, winner);
+            *a = *b = (uint8_t)by, corrected = 2;
+        } else {
+            if (ways[1] < 2 || u <= v) bam_set_seqi(bam_get_seq(x), i, seq_nt16_table['N']), *a = 2, corrected++;
+            if (ways[1] < 2 || v <= u) bam_set_seqi(bam_get_seq(y), j, seq_nt16_table['N']), *b = 2, corrected++;
+        }
+        grown[0]++, grown[p == q ? 1 : 2]++, grown[3] += (uint64_t)corrected;
+    }
+}
+
+static void same(bam1_t *x, bam1_t *y, long pair) {
+    bam1_core_t c = x->core, d = y->core;
+    if (c.pos != d.pos || c.tid != d.tid || c.flag != d.flag || c.n_cigar != d.n_cigar || c.l_qseq != d.l_qseq || c.qual != d.qual ||
+        c.mtid != d.mtid || c.mpos != d.mpos || c.isize != d.isize || x->l_data != y->l_data)
+        fail(pair, "a fixed field changed");
+    if (memcmp(x->data, y->data, (size_t)x->l_data)) fail(pair, "name, operations, bases, qualities or tags differ");
+}
+
+/* ---- the two sets ---- */
+
+static Pair *called(long n, int damage) {
+    Pair *pairs = calloc((size_t)n, sizeof *pairs);
+    if (!pairs) fail(0, "no memory");
+    for (Pair *p = pairs; p < pairs + n; p++) {
+        uint8_t counts[32] = { 0 };
+        for (int k = 0; k < 2; k++) {
+            make(&p->rec[k], k, damage);
+            p->after[k] = p->rec[k];
+            p->ways[k] = (uint32_t)below(3);
+        }
+        p->answer = overlap_call(p->after[0].at, p->after[0].len, p->after[1].at, p->after[1].len,
+                                 p->ways[0], p->ways[1], counts, sizeof counts);
+        for (int k = 31; k >= 0; k--) p->grown[k / 8] = p->grown[k / 8] << 8 | counts[k];
+    }
+    return pairs;
+}
+
+typedef struct { samFile *file; sam_hdr_t *header; bam1_t *read[2]; } Reader;
+static Reader reader(const char *path) {
+    Reader r = { sam_open(path, "r"), NULL, { bam_init1(), bam_init1() } };
+    r.header = r.file ? sam_hdr_read(r.file) : NULL;
+    if (!r.header) fail(0, "htslib can't read the file");
+    return r;
+}
+static void close_reader(Reader r) {
+    bam_destroy1(r.read[0]), bam_destroy1(r.read[1]);
+    sam_hdr_destroy(r.header);
+    sam_close(r.file);
+}
+
+static void well_formed(long n) {
+    Pair *pairs = called(n, 0);
+    long tally[2] = { 0, 0 };
+    write_bam("before.bam", pairs, n, 0);
+    write_bam("after.bam", pairs, n, 1);
+    Reader before = reader("before.bam"), after = reader("after.bam");
+    for (long i = 0; i < n; i++) {
+        uint32_t answer;
+        uint64_t grown[4] = { 0, 0, 0, 0 };
+        for (int k = 0; k < 2; k++)
+            if (sam_read1(before.file, before.header, before.read[k]) < 0 || sam_read1(after.file, after.header, after.read[k]) < 0)
+                fail(i, "htslib can't read a record");
+        rule(before.read[0], before.read[1], pairs[i].ways, &answer, grown);
+        if (pairs[i].answer != answer) fail(i, "the answer differs");
+        if (memcmp(pairs[i].grown, grown, sizeof grown)) fail(i, "the counts differ");
+        for (int k = 0; k < 2; k++) same(before.read[k], after.read[k], i);
+        tally[answer]++;
+    }
+    printf("%ld pairs agree in every byte, answer and count: overlap %ld, no overlap %ld\n", n, tally[1], tally[0]);
+    close_reader(before), close_reader(after);
+    free(pairs);
+}
+
+/* 7 or 8 for this record by what htslib says of it, else 0; -4: it refused to read it */
+static uint32_t fault(int read, const bam1_t *b) {
+    int differ = bam_cigar2qlen((int)b->core.n_cigar, bam_get_cigar(b)) != b->core.l_qseq;
+    if (differ != (read == -4)) return 99; /* htslib is of two minds */
+    return differ ? 7 : bam_endpos(b) > LAST ? 8 : 0;
+}
+
+static void at_the_limits(long n) {
+    Pair *pairs = called(n, 1);
+    long tally[100] = { 0 };
+    write_bam("before.bam", pairs, n, 0);
+    Reader before = reader("before.bam");
+    for (long i = 0; i < n; i++) {
+        uint32_t expected = 0;
+        for (uint32_t k = 0; k < 2; k++) {
+            int read = sam_read1(before.file, before.header, before.read[k]);
+            if (read < 0 && read != -4) fail(i, "htslib can't read a record");
+            uint32_t number = fault(read, before.read[k]);
+            if (!expected && number) expected = 1100 + 100 * k + number, tally[number]++;
+        }
+        if ((pairs[i].answer > 1 ? pairs[i].answer : 0) != expected) fail(i, "7 or 8 isn't where htslib's lengths and ends put it");
+        if (expected && memcmp(pairs[i].rec, pairs[i].after, sizeof pairs[i].rec)) fail(i, "a refusal wrote");
+    }
+    printf("%ld pairs are refused as htslib's lengths (7: %ld) and ends (8: %ld) have it\n", n, tally[7], tally[8]);
+    close_reader(before);
+    free(pairs);
+}
+
+int main(int argc, char **argv) {
+    if (argc != 3) return fprintf(stderr, "htslib SEED PAIRS\n"), 2;
+    state = strtoull(argv[1], NULL, 10);
+    hts_set_log_level(HTS_LOG_OFF); /* it would speak of each differing length, which are wanted here */
+    printf("htslib %s, seed %s\n", hts_version(), argv[1]);
+    well_formed(strtol(argv[2], NULL, 10));
+    at_the_limits(strtol(argv[2], NULL, 10));
+    return 0;
+}

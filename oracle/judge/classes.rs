@@ -1,0 +1,130 @@
+//! The inputs that docs/DIFFERENCES.md shows: the smallest that we know of for each class of
+//! accepted input on which the published Rust wraps or panics, and for each refusal one on which
+//! the Rust goes on. `judge classes` runs them all and stops where one does something else.
+use crate::compare::{Tally, check, spelled};
+use crate::published::{self, Ended, PairRun};
+use crate::record::*;
+use Does::*;
+
+/// What a build of the published Rust does.
+#[derive(Debug, PartialEq)]
+enum Does {
+    No,
+    Yes,
+    Panics(&'static str),
+}
+
+pub struct Known {
+    title: &'static str,
+    pub case: Case,
+    /// What document 01 and the call answer.
+    answer: u32,
+    with_checks: Does,
+    without: Does,
+}
+
+const OVERFLOW: Does = Panics("attempt to add with overflow");
+const PAST_THE_BASES: Does = Panics("index out of bounds: the len is 0 but the index is 2147483647");
+
+fn at(pos: i32, ops: &[(u32, u32)], bases: u8) -> Read {
+    let codes = vec![1; usize::from(bases)];
+    let quals = (1..=bases).map(|k| 10 * k).collect();
+    Read { pos, ops: ops.to_vec(), flags: 65, codes, quals, ..Read::default() }
+}
+
+fn known(title: &'static str, first: Read, second: Read, answer: u32, with_checks: Does, without: Does) -> Known {
+    Known { title, case: Case::new(first.encode(), second.encode(), 0, 0), answer, with_checks, without }
+}
+
+/// Accepted input.
+pub fn accepted() -> Vec<Known> {
+    // 2^31 - 8 read bases, of which none is there
+    let eight = |code: u32| vec![(code, LONGEST); 8];
+    let clipped = [eight(S), vec![(M, 7)]].concat();
+    let stepping = |last: u32| [vec![(D, 1)], eight(I), vec![(I, 8), (M, 1), (M, last)]].concat();
+    vec![
+        known("1a. start past the largest i32", at(i32::MAX, &[], 0), at(-1, &[], 0), 0, OVERFLOW, No),
+        known("1b. end past the largest i32", at(i32::MAX - 1, &[(D, 2)], 0), at(-1, &[], 0), 0, OVERFLOW, No),
+        known("2a. read position past the largest i32", at(0, &clipped, 0), at(0, &[(M, 1)], 0), 0, OVERFLOW, No),
+        known("2b. and wrapped below 0", at(0, &stepping(1), 0), at(0, &[(M, 1)], 1), 0, OVERFLOW, PAST_THE_BASES),
+        known(
+            "2c. in both records, with a million positions",
+            at(0, &stepping(1_000_000), 0),
+            at(0, &stepping(1_000_000), 0),
+            0,
+            OVERFLOW,
+            PAST_THE_BASES,
+        ),
+    ]
+}
+
+/// Refused input.
+fn refused() -> Vec<Known> {
+    let mate = || at(0, &[(M, 4)], 4);
+    let cut = |title, mut first: Vec<u8>, by: usize, answer, with_checks, without| {
+        first.truncate(first.len() - by);
+        Known { title, case: Case::new(first, mate().encode(), 0, 0), answer, with_checks, without }
+    };
+    let mut named = at(0, &[], 0).encode();
+    named[8] = 1;
+    vec![
+        cut("1. 31 bytes", at(0, &[], 0).encode(), 1, 1101, Panics("assertion failed"), No),
+        cut("1. 15 bytes", at(0, &[], 0).encode(), 17, 1101, Panics("assertion failed"), Panics("index out of bounds")),
+        cut("3. a name past the end", named, 0, 1103, No, No),
+        cut("4. a quality missing", at(0, &[(M, 1)], 1).encode(), 1, 1104, Panics("range end"), Panics("range end")),
+        known("5. 1M, code 9, 1M", at(0, &[(M, 1), (9, 1), (M, 1)], 2), mate(), 1105, Yes, Yes),
+        known("6. 1M0M1I1M", at(0, &[(M, 1), (M, 0), (I, 1), (M, 1)], 3), mate(), 1106, Yes, Yes),
+        known("7. 3M on 2 bases", at(0, &[(M, 3)], 2), mate(), 1107, Yes, Yes),
+        known("7. 1M on 2 bases", at(0, &[(M, 1)], 2), mate(), 1107, Yes, Yes),
+        known(
+            "8. end 2147483647",
+            at(LAST as i32 - 1, &[(M, 2)], 2),
+            at(LAST as i32 - 1, &[(M, 2)], 2),
+            1108,
+            OVERFLOW,
+            Yes,
+        ),
+        known(
+            "8. end 2147483648",
+            at(LAST as i32 - 1, &[(M, 3)], 3),
+            at(LAST as i32 - 1, &[(M, 2)], 2),
+            1108,
+            OVERFLOW,
+            No,
+        ),
+    ]
+}
+
+fn does(ended: &Ended<(bool, [u64; 4])>, expected: &Does) -> bool {
+    match (ended, expected) {
+        (Ended::Done((overlap, _)), No) => !overlap,
+        (Ended::Done((overlap, _)), Yes) => *overlap,
+        (Ended::Panicked(message), Panics(text)) => message.starts_with(text),
+        _ => false,
+    }
+}
+
+pub fn run() {
+    let mut tally = Tally::default();
+    for known in accepted().into_iter().chain(refused()) {
+        println!("{}\n  judge one {}", known.title, spelled(&known.case));
+        let answer = check(&known.case, &mut tally).code();
+        println!("  document 01 and the call: {answer}");
+        assert_eq!(answer, known.answer);
+        for (build, run, expected) in [
+            ("with checks", published::checked::pair as PairRun, known.with_checks),
+            ("without checks", published::plain::pair, known.without),
+        ] {
+            let (mut first, mut second) = (known.case.first.clone(), known.case.second.clone());
+            let ended = run(&mut first, &mut second, 0, 0);
+            println!("  the Rust {build}: {ended:?}");
+            assert!(does(&ended, &expected), "expected {expected:?}");
+            if expected == Yes {
+                println!("    first  {}\n    second {}", hex(&first), hex(&second));
+            }
+        }
+    }
+    let (checked, plain) = (published::checked::merge(u64::MAX, 1), published::plain::merge(u64::MAX, 1));
+    println!("13. merging 2^64-1 and 1\n  the Rust with checks: {checked:?}\n  the Rust without checks: {plain:?}");
+    assert!(matches!(checked, Ended::Panicked(_)) && plain == Ended::Done(0));
+}

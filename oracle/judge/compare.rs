@@ -1,0 +1,170 @@
+//! One case, all sides: the exported call against the model, and on accepted input the published
+//! Rust, in both builds, as the judge. What differs must belong to a known class.
+use crate::call::{After, call, wrapped};
+use crate::model::{self, Answer};
+use crate::published::{self, Ended, PairRun};
+use crate::record::{Case, hex, pack, unpack};
+use std::collections::BTreeMap;
+
+/// Accepted input on which the published Rust wraps or panics (docs/DIFFERENCES.md).
+#[derive(Clone, Copy, Debug, PartialEq, Eq, PartialOrd, Ord)]
+pub enum Class {
+    /// The second position is negative, so nothing else matters; but the first record's start or
+    /// end, worked out before that is looked at, passes the largest i32.
+    FirstEndPastI32,
+    /// l_seq is 0, so that no base sits anywhere; but the operations' read lengths move the
+    /// Rust's read position past the largest i32.
+    ReadPositionPastI32,
+}
+
+/// The class of an accepted pair.
+pub fn class(first: &[u8], second: &[u8]) -> Option<Class> {
+    const END: u64 = i32::MAX as u64;
+    let mapped = |r: &[u8]| model::flags(r) & 4 == 0;
+    if !mapped(first) || !mapped(second) || model::ref_id(first) != model::ref_id(second) || model::pos(first) < 0 {
+        return None;
+    }
+    if model::pos(second) < 0 {
+        // its operations aren't judged: codes above 8, which use nothing, may be among them
+        let on_reference = |o: &&(u64, u64)| matches!(o.0, 0 | 2 | 3 | 7 | 8);
+        let reference: u64 = model::operations(first).iter().filter(on_reference).map(|o| o.1).sum();
+        let at = model::pos(first) as u64;
+        let past = at == END || (reference <= END && at + reference > END);
+        return past.then_some(Class::FirstEndPastI32);
+    }
+    let wraps = |r: &[u8]| model::l_seq(r) == 0 && model::read_total(r) >= END;
+    (wraps(first) || wraps(second)).then_some(Class::ReadPositionPastI32)
+}
+
+/// How many cases went which way.
+#[derive(Default)]
+pub struct Tally {
+    pub cases: u64,
+    pub answers: BTreeMap<u32, u64>,
+    /// Accepted cases on which both builds of the Rust gave every byte, answer and count.
+    pub equal: u64,
+    /// Other accepted cases, by class and by what the two builds did.
+    pub known: BTreeMap<(Class, String), u64>,
+    /// What the Rust without checks does where we refuse, by our number: no, yes, panic.
+    pub on_refused: BTreeMap<u32, [u64; 3]>,
+}
+
+impl Tally {
+    pub fn print(&self, what: &str) {
+        println!("{what}: {} cases, none that differs outside the known classes", self.cases);
+        let answers: Vec<String> = self.answers.iter().map(|(a, n)| format!("{a}: {n}")).collect();
+        println!("  answers  {}", answers.join("  "));
+        println!("  accepted and equal with both builds of the published Rust: {}", self.equal);
+        for ((class, what), n) in &self.known {
+            println!("  known class {class:?}, {what}: {n}");
+        }
+        for (number, [no, yes, panic]) in &self.on_refused {
+            println!("  refused as {number}; there the Rust says no {no}, yes {yes}, panics {panic}");
+        }
+    }
+}
+
+/// Compares one case on all sides. An Err is a finding.
+pub fn compare(case: &Case, tally: &mut Tally) -> Result<Answer, String> {
+    let turn = tally.cases;
+    tally.cases += 1;
+    let (answer, expected) = modelled(case);
+    *tally.answers.entry(expected.answer).or_default() += 1;
+    if answer != Answer::Overlap && expected != After::nothing(case, expected.answer) {
+        return Err("the model wrote although the answer isn't 1".into());
+    }
+    let got = call(case, turn)?;
+    if got != expected {
+        return Err(format!("the call and the model differ in: {}", got.differs(&expected)));
+    }
+    if turn.is_multiple_of(16) && wrapped(case).is_some_and(|through| through != expected) {
+        return Err("the safe wrapper and the call differ".into());
+    }
+    match answer {
+        Answer::Refused { number, .. } => look_at_refused(case, number, tally),
+        _ => rust_judges(case, &expected, tally)?,
+    }
+    Ok(answer)
+}
+
+/// What document 01 asks for.
+fn modelled(case: &Case) -> (Answer, After) {
+    let (mut first, mut second, mut counts) = (case.first.clone(), case.second.clone(), case.counts.clone());
+    let answer = model::pair(&mut first, &mut second, case.agreement, case.disagreement, &mut counts);
+    (answer, After { answer: answer.code(), first, second, counts })
+}
+
+/// Accepted input: both builds of the Rust give what was expected, or the case is of a known class.
+fn rust_judges(case: &Case, expected: &After, tally: &mut Tally) -> Result<(), String> {
+    let checked = rust_beside(case, expected, published::checked::pair);
+    let plain = rust_beside(case, expected, published::plain::pair);
+    if checked == Ended::Done(()) && plain == Ended::Done(()) {
+        tally.equal += 1;
+        return Ok(());
+    }
+    let words = (word(&checked), word(&plain));
+    let class = class(&case.first, &case.second);
+    match (class, words) {
+        (Some(Class::FirstEndPastI32), ("overflow panic", "equal")) => {}
+        (Some(Class::ReadPositionPastI32), ("overflow panic", "equal" | "index panic")) => {}
+        _ => return Err(format!("the published Rust differs; with checks {checked:?}, without {plain:?}")),
+    }
+    let words = format!("with checks: {}, without: {}", words.0, words.1);
+    *tally.known.entry((class.unwrap(), words)).or_default() += 1;
+    Ok(())
+}
+
+/// How a build of the Rust ends; `Done` only where answer, bytes and growth are the expected ones.
+fn rust_beside(case: &Case, expected: &After, run: PairRun) -> Ended<()> {
+    let (mut first, mut second) = (case.first.clone(), case.second.clone());
+    match run(&mut first, &mut second, case.agreement, case.disagreement) {
+        Ended::Done((overlap, growth)) => {
+            let given = unpack(&case.counts);
+            let counts = pack(std::array::from_fn(|k| given[k] + growth[k]));
+            let got = After { answer: u32::from(overlap), first, second, counts };
+            if got == *expected { Ended::Done(()) } else { Ended::Failed(format!("other {}", got.differs(expected))) }
+        }
+        Ended::Failed(e) => Ended::Failed(e),
+        Ended::Panicked(m) => Ended::Panicked(m),
+    }
+}
+
+fn word(ended: &Ended<()>) -> &'static str {
+    match ended {
+        Ended::Done(()) => "equal",
+        Ended::Panicked(m) if m.contains("overflow") => "overflow panic",
+        Ended::Panicked(m) if m.contains("index out of bounds") => "index panic",
+        _ => "another result",
+    }
+}
+
+/// Refused input: nothing is judged, but it is told what the Rust does there. Left out is what
+/// could run long or fill the memory.
+fn look_at_refused(case: &Case, number: u32, tally: &mut Tally) {
+    let small = |r: &[u8]| match model::record_fault(r) {
+        Some(1..=3) => true,
+        _ => model::operations(r).iter().all(|o| o.1 < 1000) && model::pos(r) < 1 << 30,
+    };
+    if number > 8 || !small(&case.first) || !small(&case.second) {
+        return;
+    }
+    let (mut a, mut b) = (case.first.clone(), case.second.clone());
+    let column = match published::plain::pair(&mut a, &mut b, case.agreement, case.disagreement) {
+        Ended::Done((overlap, _)) => usize::from(overlap),
+        _ => 2,
+    };
+    tally.on_refused.entry(number).or_default()[column] += 1;
+}
+
+/// The case as the command `judge one` takes it.
+pub fn spelled(case: &Case) -> String {
+    format!("{} {} {} {} {}", case.agreement, case.disagreement, hex(&case.counts), hex(&case.first), hex(&case.second))
+}
+
+/// Compares, and ends the run at the first finding.
+pub fn check(case: &Case, tally: &mut Tally) -> Answer {
+    compare(case, tally).unwrap_or_else(|finding| {
+        eprintln!("FOUND: {finding}\nsee it by: judge one {}", spelled(case));
+        std::process::exit(1)
+    })
+}

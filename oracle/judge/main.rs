@@ -1,0 +1,98 @@
+//! The judge: runs the exported call, a model of document 01 and the published Rust on the same
+//! input and compares every answer, byte and count. oracle/README.md says how to use it.
+mod call;
+mod classes;
+mod compare;
+mod group_cases;
+mod groups;
+mod limits;
+mod model;
+mod published;
+mod random;
+mod record;
+mod rng;
+mod short;
+mod shows;
+mod stored;
+
+use compare::{Tally, check};
+use published::PairRun;
+use record::{Case, hex, unhex};
+use rng::Rng;
+
+const USAGE: &str = "\
+judge random SEED COUNT                 well-formed pairs
+judge damaged SEED COUNT                the same with damage
+judge extremes SEED COUNT               positions, lengths and totals at the ends of their ranges
+judge limits                            each limit of the table of refusals, at it and one off
+judge short FIRST SECOND LONGEST SEED   all operation lists of up to so many operations
+judge groups PROGRAM SEED COUNT         groups through the program's standard input and output
+judge group-limits PROGRAM              each limit of a group, at it and one off
+judge classes                           the smallest inputs on which the Rust wraps or panics
+judge store FOLDER SEED                 writes the stored list of answers
+judge one AGREEMENT DISAGREEMENT COUNTS FIRST SECOND    one pair in hexadecimal, every side shown";
+
+fn main() {
+    let words: Vec<String> = std::env::args().skip(1).collect();
+    let word = |i: usize| words.get(i).map(String::as_str).unwrap_or_else(|| usage());
+    let number = |i: usize| word(i).parse::<u64>().unwrap_or_else(|_| usage());
+    published::listen();
+    match word(0) {
+        "random" => seeded("random pairs", random::good, number(1), number(2)),
+        "damaged" => seeded("damaged pairs", random::damaged, number(1), number(2)),
+        "extremes" => seeded("extreme pairs", random::extreme, number(1), number(2)),
+        "limits" => limits::run(),
+        "short" => short::run(number(1) as u32, number(2) as u32, number(3) as u32, number(4)),
+        "groups" => groups::run(word(1), number(2), number(3)),
+        "group-limits" => groups::run_limits(word(1)),
+        "classes" => classes::run(),
+        "store" => stored::write(word(1), number(2)),
+        "one" => one(&Case {
+            agreement: number(1) as u32,
+            disagreement: number(2) as u32,
+            counts: unhex(word(3)),
+            first: unhex(word(4)),
+            second: unhex(word(5)),
+        }),
+        _ => usage(),
+    }
+}
+
+fn usage() -> ! {
+    eprintln!("{USAGE}");
+    std::process::exit(2)
+}
+
+fn seeded(what: &str, make: fn(&mut Rng) -> Case, seed: u64, count: u64) {
+    let mut r = Rng::new(seed);
+    let mut tally = Tally::default();
+    for _ in 0..count {
+        check(&make(&mut r), &mut tally);
+    }
+    tally.print(&format!("{what}, seed {seed}"));
+}
+
+/// Shows what every side does with one pair.
+fn one(case: &Case) {
+    let show = |side: &str, answer: String, first: &[u8], second: &[u8]| {
+        println!("{side:<20} {answer}\n  first  {}\n  second {}", hex(first), hex(second));
+    };
+    let (mut a, mut b, mut c) = (case.first.clone(), case.second.clone(), case.counts.clone());
+    let answer = model::pair(&mut a, &mut b, case.agreement, case.disagreement, &mut c).code();
+    show("document 01", format!("{answer} counts {}", hex(&c)), &a, &b);
+    match call::call(case, 0) {
+        Ok(got) => show("the call", format!("{} counts {}", got.answer, hex(&got.counts)), &got.first, &got.second),
+        Err(finding) => println!("the call             {finding}"),
+    }
+    let builds =
+        [("Rust with checks", published::checked::pair as PairRun), ("Rust without checks", published::plain::pair)];
+    for (side, run) in builds.into_iter().filter(|_| case.agreement < 3 && case.disagreement < 3) {
+        let (mut a, mut b) = (case.first.clone(), case.second.clone());
+        let ended = run(&mut a, &mut b, case.agreement, case.disagreement);
+        show(side, format!("{ended:?}"), &a, &b);
+    }
+    match compare::compare(case, &mut Tally::default()) {
+        Ok(_) => println!("compared: nothing outside the known classes"),
+        Err(finding) => println!("compared: {finding}"),
+    }
+}

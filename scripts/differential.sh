@@ -1,0 +1,56 @@
+#!/bin/sh
+# The exported call and the program against the published Rust and a model of document 01.
+#
+#   scripts/differential.sh [gate|full|lists] [SEED] [FOLDER]
+#
+# gate   (default) a fresh run of about a minute; SEED is the time unless given, and is printed
+# full   the same at length: 46.8 million pairs and 120,000 groups in four to eight minutes
+# lists  all lists of up to three operations of lengths 1 and 2 in both reads: 225 million pairs
+#
+# FOLDER is that of the published Rust (default ../shared/docs/src beside the repository). Where
+# it isn't at hand the run says so and compares nothing.
+set -eu
+. "$(dirname "$0")/settings.sh"
+size=gate seed=$(date +%s)
+for word; do
+    case $word in
+    gate | full | lists) size=$word ;;
+    *[!0-9]*) PUBLISHED=$word ;;
+    *) seed=$word ;;
+    esac
+done
+if [ ! -f "$PUBLISHED/crates/fgumi-consensus/src/overlapping.rs" ] || ! have_rustc; then
+    echo "NOT COMPARED with the published Rust: it or rustc isn't at hand (looked in $PUBLISHED)."
+    echo "The stored list of its answers stands in."
+    exit 0
+fi
+need_archive
+case $size in
+gate) pairs=1000000 few=300000 groups=15000 ;;
+full) pairs=16000000 few=3000000 groups=120000 ;;
+esac
+"$root/oracle/build.sh" "$PUBLISHED" "$ARCHIVE"
+judge=$root/target/oracle/judge
+echo "seed $seed"
+if [ "$size" = lists ]; then
+    exec "$judge" short 3 3 2 "$seed"
+fi
+"$judge" classes >"$root/target/oracle/classes.out"
+echo "the smallest inputs of the known classes do what docs/DIFFERENCES.md says"
+"$judge" limits
+"$judge" random "$seed" $pairs
+"$judge" damaged "$seed" $few
+"$judge" extremes "$seed" $few
+"$judge" short 3 3 1 "$seed"
+"$judge" short 2 2 2 "$seed"
+if [ "$size" = full ]; then
+    "$judge" short 3 2 2 "$seed"
+    "$judge" short 2 3 2 "$seed"
+fi
+if [ -x "$PROGRAM" ]; then
+    "$judge" group-limits "$PROGRAM"
+    "$judge" groups "$PROGRAM" "$seed" $groups
+else
+    echo "NO GROUPS COMPARED: the program isn't there; make it by: rt check overlap"
+fi
+"$root/scripts/store-answers.sh" --check
