@@ -1,6 +1,6 @@
 #!/usr/bin/env python3
 """Checks that docs/PROVED.md is true to the tree: every definition, function, theorem, edit and file
-that it names exists, and the line counts are right."""
+that it names exists, and the line counts (imports, comments and blank lines left out) are right."""
 import os, re, sys
 
 os.chdir(os.path.join(os.path.dirname(os.path.abspath(__file__)), '..'))
@@ -45,9 +45,10 @@ for crate, name in re.findall(r'`(\w+)/must-fail/(\w+)`', page):
 
 for path, lines in re.findall(r'\| `([\w/]+\.antt)` \| (\d+) \|', page):
     checked += 1
-    text = read('crates/' + path)
-    if text is None or text.count('\n') != int(lines):
-        faults.append(f'{path}: {lines} lines on the page, {text and text.count(chr(10))} in the tree')
+    text = read('crates/' + path) or ''
+    said = sum(1 for line in text.split('\n') if line.strip() and not re.match(r'use | *--', line))
+    if said != int(lines):
+        faults.append(f'{path}: {lines} lines on the page, {said} in the tree')
 
 for crate in sorted(os.listdir('crates')):
     for edit in sorted(os.listdir(f'crates/{crate}/must-fail')) if os.path.isdir(f'crates/{crate}/must-fail') else []:
