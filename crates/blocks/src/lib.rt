@@ -11,13 +11,14 @@ use strategy::Strategies;
 ghost use mathlib.Core.Path.{_≡_};
 ghost use Prim.Native.Nat.{_+_, _*_, _≤_};
 ghost use lib.ListN.{length};
-ghost use Rattle.fields.specs.Check.{Lies};
-ghost use Rattle.stats.specs.Counts.{Room};
-ghost use Rattle.positions.specs.Step.{state, job, steps, row};
+ghost use Rattle.fields.specs.Sound.{Lies};
+ghost use Rattle.stats.specs.Room.{Room};
+ghost use Rattle.positions.specs.Step.{state, job};
+ghost use Rattle.positions.specs.Treating.{steps, row};
 ghost use Rattle.blocks.specs.BlockParts.{BlockSize};
 
 // Fewer positions than this are not worth a block.
-const FEW: usize = 5;
+const FEW: usize = 2;
 
 // How many of n positions go into one block, where the records have a and b bytes from the block's
 // qualities on. None where they are few, or where 32 qualities cannot be read.
