@@ -5,9 +5,10 @@ use mathlib.Core.List.{List, [], _∷_}
 use native.Mathlib.Numerals.{add-one}
 use native.Mathlib.Omega.{arith}
 use lib.ListN.{length, getD}
-use Rattle.fields.specs.Check.{Sound}
+use Rattle.fields.specs.Sound.{Sound}
 use Rattle.stats.specs.declared.CorrectionStats.{CorrectionStats}
-use Rattle.stats.specs.Counts.{zeroed, plus, Room, Adds, AtMost}
+use Rattle.stats.specs.Counts.{zeroed, plus}
+use Rattle.stats.specs.Room.{Room, Adds, AtMost}
 use Rattle.stats.proofs.CountLaws.{room-less, room-plus, room-adds}
 use Rattle.strategy.specs.declared.Strategies.{Strategies}
 use Rattle.positions.specs.Step.{state}

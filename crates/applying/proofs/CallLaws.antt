@@ -12,10 +12,12 @@ use Rattle.fields.specs.declared.Checked.the-variants.{Good, Bad}
 use Rattle.fields.specs.Check.{checkOf}
 use Rattle.fields.proofs.CheckLaws.{good-sound}
 use Rattle.stats.specs.declared.CorrectionStats.{CorrectionStats}
-use Rattle.stats.specs.Counts.{zeroed, full, AtMost}
+use Rattle.stats.specs.Counts.{zeroed, full}
+use Rattle.stats.specs.Room.{AtMost}
 use Rattle.stats.proofs.CountLaws.{most-less, most-plus}
 use Rattle.strategy.specs.declared.Strategies.{Strategies}
-use Rattle.positions.specs.Step.{Job, job, State, state, step, steps}
+use Rattle.positions.specs.Step.{Job, job, State, state}
+use Rattle.positions.specs.Treating.{step, steps}
 use Rattle.positions.proofs.StepLaws.{ruled-fine, steps-length}
 use Rattle.positions.proofs.PointLaws.{Rises}
 use Rattle.merge.specs.Shared.{shared, merged}
@@ -41,7 +43,7 @@ unfolding merged
 long-judged w y z s (Judge.Refused r) = record { first = refl; second = refl }
 long-judged w y z s Judge.Apart = record { first = refl; second = refl }
 long-judged w y z s (Judge.Both p q) =
-    let h = steps-length (job w y z) (shared y z p q (s .first) (s .second)) s in
+    let h = steps-length (job w y z) (shared y z (p .start) (q .start) (s .first) (s .second)) s in
     record { first = h .0; second = h .1 }
 
 pub call-long : (w : Strategies) (s : State) → Long s (pairOf w s)
@@ -77,8 +79,8 @@ module _ (w : Strategies) (a b : List ℕ) where
   most-judged y z h (Judge.Refused r) = zero-most 131072
   most-judged y z h Judge.Apart = zero-most 131072
   most-judged y z h (Judge.Both p q) =
-      let l = shared y z p q a b in
-      let few = rises-length (y .count) (z .count) 0 0 (shared y z p q a b) (shared-rises w y z p q s) in
+      let l = shared y z (p .start) (q .start) a b in
+      let few = rises-length (y .count) (z .count) 0 0 (shared y z (p .start) (q .start) a b) (shared-rises w y z (p .start) (q .start) s) in
       most-less (0 + 2 * length l) 131072 _ (omega (arith, few)) (steps-most (job w y z) l s 0 (zero-most 0))
 
   pub call-most : AtMost 131072 (pairOf w (state a b zeroed) .after .stats)

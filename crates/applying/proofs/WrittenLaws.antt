@@ -2,7 +2,7 @@
 use Prim.Native.Nat.{ℕ, zero, suc, _+_, _-_, _<_, _≤_}
 use mathlib.Core.Path.{_≡_, refl, sym, _∙_, ap}
 use mathlib.Core.List.{List, [], _∷_}
-use mathlib.Core.Logic.{_⊎_}
+use mathlib.Core.Logic.{_⊎_, ⊎-elim}
 use native.Mathlib.Omega.{arith}
 use borrow.Author.Tests.{eq-eqb}
 use lib.Dec.{eqb}
@@ -14,7 +14,9 @@ use Rattle.frames.specs.Part.{part}
 use Rattle.frames.specs.Frame.{beginOf, startOf, endOf, recordOf, putRecord}
 use Rattle.frames.proofs.PartLaws.{length-part}
 use Rattle.frames.proofs.PlaceLaws.{start-end, end-in, put-size, put-here, put-other, put-out}
-use Rattle.mates.specs.Promise.{Among, here, later, one, times, Once}
+use Rattle.fields.specs.Among.{Among}
+use Rattle.fields.proofs.AmongLaws.{among-cons, among-none}
+use Rattle.mates.specs.Promise.{one, times, Once}
 use Rattle.verdicts.specs.Judged.{pairAt}
 use Rattle.applying.specs.Applied.{written}
 use Rattle.applying.proofs.CallLaws.{call-long}
@@ -128,21 +130,31 @@ module _ (w : Strategies) (s₀ : List ℕ) (n : ℕ) (fit : beginOf s₀ n ≤ 
       written-other l (stepped w s₀ s e) (next-size e l s h o) (once-rest n e l o) j (omega arith)
       ∙ step-other s h e (first-in n e l o) (second-in n e l o) j (λ q. omega (arith, one-yes (e .0) j q)) (λ q. omega (arith, one-yes (e .1) j q))
 
-  pub written-first : (l : List (ℕ × ℕ)) (s : List ℕ) → length s ≡ length s₀ → Once n l → (i j : ℕ) → Among i j l
+  pub written-first : (l : List (ℕ × ℕ)) (s : List ℕ) → length s ≡ length s₀ → Once n l → (i j : ℕ) → Among l i j
       → part (written w s₀ l s) (startOf s₀ i) (endOf s₀ i) ≡ pairAt w s₀ i j .after .first
   unfolding written
-  written-first _ s h o i j (here {l = l}) =
-      written-other l (stepped w s₀ s (i, j)) (next-size (i, j) l s h o) (once-rest n (i, j) l o) i (first-gone n (i, j) l o)
-      ∙ step-first s h (i, j) (first-in n (i, j) l o) (second-in n (i, j) l o) (not-self n (i, j) l o)
-  written-first _ s h o i j (later {e = e} {l = l} a) = written-first l (stepped w s₀ s e) (next-size e l s h o) (once-rest n e l o) i j a
+  written-first [] s h o i j a = absurd (among-none i j a)
+  written-first (e ∷ l) s h o i j a =
+      ⊎-elim
+      (λ (z : (i ≡ e .0) × (j ≡ e .1)).
+      rw (z .0, z .1)
+      (written-other l (stepped w s₀ s e) (next-size e l s h o) (once-rest n e l o) (e .0) (first-gone n e l o)
+      ∙ step-first s h e (first-in n e l o) (second-in n e l o) (not-self n e l o)))
+      (λ (z : Among l i j). written-first l (stepped w s₀ s e) (next-size e l s h o) (once-rest n e l o) i j z)
+      (among-cons e l i j a)
 
-  pub written-second : (l : List (ℕ × ℕ)) (s : List ℕ) → length s ≡ length s₀ → Once n l → (i j : ℕ) → Among i j l
+  pub written-second : (l : List (ℕ × ℕ)) (s : List ℕ) → length s ≡ length s₀ → Once n l → (i j : ℕ) → Among l i j
       → part (written w s₀ l s) (startOf s₀ j) (endOf s₀ j) ≡ pairAt w s₀ i j .after .second
   unfolding written
-  written-second _ s h o i j (here {l = l}) =
-      written-other l (stepped w s₀ s (i, j)) (next-size (i, j) l s h o) (once-rest n (i, j) l o) j (second-gone n (i, j) l o)
-      ∙ step-second s h (i, j) (first-in n (i, j) l o) (second-in n (i, j) l o)
-  written-second _ s h o i j (later {e = e} {l = l} a) = written-second l (stepped w s₀ s e) (next-size e l s h o) (once-rest n e l o) i j a
+  written-second [] s h o i j a = absurd (among-none i j a)
+  written-second (e ∷ l) s h o i j a =
+      ⊎-elim
+      (λ (z : (i ≡ e .0) × (j ≡ e .1)).
+      rw (z .0, z .1)
+      (written-other l (stepped w s₀ s e) (next-size e l s h o) (once-rest n e l o) (e .1) (second-gone n e l o)
+      ∙ step-second s h e (first-in n e l o) (second-in n e l o)))
+      (λ (z : Among l i j). written-second l (stepped w s₀ s e) (next-size e l s h o) (once-rest n e l o) i j z)
+      (among-cons e l i j a)
 
   -- a byte in no pair's records stays
   pub written-out : (l : List (ℕ × ℕ)) (s : List ℕ) → length s ≡ length s₀ → Once n l → (p : ℕ) → ((i : ℕ) → 0 < times l i → (p < startOf s₀ i) ⊎ (endOf s₀ i ≤ p))

@@ -6,7 +6,7 @@ use strategy::Strategies;
 ghost use mathlib.Core.Path.{_≡_};
 ghost use Prim.Native.Nat.{_*_, _≤_};
 ghost use lib.ListN.{length};
-ghost use Rattle.stats.specs.Counts.{Room};
+ghost use Rattle.stats.specs.Room.{Room};
 ghost use Rattle.frames.specs.Table.{Placed};
 ghost use Rattle.mates.specs.Register.{pairsOf};
 ghost use Rattle.mates.specs.Table.{Mated};

@@ -1,1 +1,2 @@
 pub mod Base
+pub mod Written

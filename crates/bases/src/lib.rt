@@ -4,8 +4,8 @@ use fields::ReadOffset;
 ghost use mathlib.Core.Path.{_≡_};
 ghost use Prim.Native.Nat.{_<_};
 ghost use lib.ListN.{length};
-ghost use Rattle.fields.specs.Check.{Lies};
-ghost use Rattle.bases.specs.Base.{putBase, put, SeenAt};
+ghost use Rattle.fields.specs.Sound.{Lies};
+ghost use Rattle.bases.specs.Written.{withBase, withSeen, SeenAt};
 
 // A base's code and its quality.
 pub struct Seen {
@@ -39,7 +39,7 @@ pub fn get(s: &[u8], y: Layout, i: ReadOffset) -> Seen
 // Base i becomes the code v. The other base of its byte stays.
 pub fn set_base(s: &mut [u8], y: Layout, i: ReadOffset, v: u8)
     requires { ⌜ Lies y (length (now s)) × (i .0 < y .count) × (v < 16) ⌝ }
-    ensures { λ _. ⌜ now (s .exit) ≡ putBase (now (s .entry)) y (i .0) v ⌝ }
+    ensures { λ _. ⌜ now (s .exit) ≡ withBase (now (s .entry)) y (i .0) v ⌝ }
 {
     let bases = y.bases;
     let k = i.0;
@@ -55,7 +55,7 @@ pub fn set_base(s: &mut [u8], y: Layout, i: ReadOffset, v: u8)
 // Base i becomes the code v with the quality q. Every other bit stays.
 pub fn set(s: &mut [u8], y: Layout, i: ReadOffset, v: u8, q: u8)
     requires { ⌜ Lies y (length (now s)) × (i .0 < y .count) × (v < 16) ⌝ }
-    ensures { λ _. ⌜ now (s .exit) ≡ put (now (s .entry)) y (i .0) v q ⌝ }
+    ensures { λ _. ⌜ now (s .exit) ≡ withSeen (now (s .entry)) y (i .0) v q ⌝ }
 {
     set_base(s, y, i, v);
     let qualities = y.qualities;

@@ -8,15 +8,17 @@ use lib.ListN.{length, getD, set}
 use lib.Seq.{set-getD}
 use borrow.Author.Tests.{eq-eqb, ne-eqb}
 use Rattle.fields.specs.declared.Layout.{Layout}
-use Rattle.fields.specs.Check.{Lies}
+use Rattle.fields.specs.Sound.{Lies}
 use Rattle.fields.proofs.Arith.{eq-or-ne}
 use Rattle.stats.specs.declared.CorrectionStats.{CorrectionStats}
 use Rattle.stats.specs.Counts.{counts, plus}
 use Rattle.stats.proofs.CountLaws.{counts-as}
 use Rattle.strategy.specs.declared.Strategies.{Strategies}
-use Rattle.bases.specs.Base.{baseAt, qualityAt, put}
+use Rattle.bases.specs.Base.{baseAt, qualityAt}
+use Rattle.bases.specs.Written.{withSeen}
 use Rattle.bases.proofs.BaseLaws.{put-base-other, put-qual-other}
-use Rattle.positions.specs.Step.{Job, job, State, state, ruled, wrote, step, steps, row}
+use Rattle.positions.specs.Step.{Job, job, State, state, ruled}
+use Rattle.positions.specs.Treating.{wrote, step, steps, row}
 use Rattle.positions.proofs.StepLaws.{ruled-fine}
 use Rattle.positions.proofs.PointLaws.{Both, both-step}
 use Rattle.blocks.specs.declared.lane.Lane.{Lane}
@@ -62,7 +64,7 @@ step-laid w ka kb o s i j h =
     ) in
     ap (wrote w (laid ka kb o s) i j) e
     ∙ rw (put-set (s .first) (w .first) i (r .base1) (r .qual1) ka (o .qual1) (h .base₁) (h .quality₁), put-set (s .second) (w .second) j (r .base2) (r .qual2) kb (o .qual2) (h .base₂) (h .quality₂))
-    (ap (state (set (put (s .first) (w .first) i (r .base1) (r .qual1)) ka (o .qual1)) (set (put (s .second) (w .second) j (r .base2) (r .qual2)) kb (o .qual2)))
+    (ap (state (set (withSeen (s .first) (w .first) i (r .base1) (r .qual1)) ka (o .qual1)) (set (withSeen (s .second) (w .second) j (r .base2) (r .qual2)) kb (o .qual2)))
     (plus-swap (s .stats) (laneGrowth o) (r .growth)))
 
 step-quick : (w : Job) (f : ℕ → Lane) (ka kb m t : ℕ) (s : State) (i j : ℕ) → Before w i j (ka + t) (kb + t) → step w (quick f ka kb t m s) i j ≡ quick f ka kb t m (step w s i j)

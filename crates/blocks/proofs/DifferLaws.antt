@@ -5,10 +5,11 @@ use mathlib.Core.List.{_∷_}
 use native.Mathlib.Omega.{arith}
 use lib.ListN.{length}
 use borrow.Author.Tests.{eq-eqb, ne-eqb}
-use Rattle.stats.specs.Counts.{Room}
+use Rattle.stats.specs.Room.{Room}
 use Rattle.stats.proofs.CountLaws.{room-less}
 use Rattle.bases.proofs.BaseLaws.{put-length}
-use Rattle.positions.specs.Step.{Job, State, step, steps}
+use Rattle.positions.specs.Step.{Job, State}
+use Rattle.positions.specs.Treating.{step, steps}
 use Rattle.positions.proofs.StepLaws.{step-room}
 use Rattle.blocks.specs.BlockParts.{picked}
 

@@ -8,11 +8,12 @@ use lib.ListN.{length, getD, set}
 use lib.Seq.{getD-set-same, getD-set-other, set-comm, set-getD}
 use Rattle.fields.specs.declared.Layout.{Layout}
 use Rattle.fields.proofs.Arith.{eq-or-ne}
-use Rattle.bases.specs.Base.{half, withHalf, baseAt, qualityAt, putBase, put}
+use Rattle.bases.specs.Base.{half, baseAt, qualityAt}
+use Rattle.bases.specs.Written.{withHalf, withBase, withSeen}
 
 -- ---- a quality stored further on does not meet the position
-pub put-set : (l : List ℕ) (y : Layout) (i v x k u : ℕ) → y .bases + i / 2 < k → y .qualities + i < k → put (set l k u) y i v x ≡ set (put l y i v x) k u
-unfolding put putBase
+pub put-set : (l : List ℕ) (y : Layout) (i v x k u : ℕ) → y .bases + i / 2 < k → y .qualities + i < k → withSeen (set l k u) y i v x ≡ set (withSeen l y i v x) k u
+unfolding withSeen withBase
 put-set l y i v x k u h q =
     let m = y .bases + i / 2 in
     let n1 : k ≡ m → ⊥ = λ e. omega arith in
@@ -41,8 +42,8 @@ with-small : (n b v : ℕ) → b < 256 → v < 16 → withHalf n b v < 256
 with-small zero b v h q = omega arith
 with-small (suc n) b v h q = omega arith
 
-pub put-small : (l : List ℕ) (y : Layout) (i v x : ℕ) → y .bases + i / 2 < length l → y .bases + i / 2 < y .qualities → v < 16 → Small y l → Small y (put l y i v x)
-unfolding put putBase
+pub put-small : (l : List ℕ) (y : Layout) (i v x : ℕ) → y .bases + i / 2 < length l → y .bases + i / 2 < y .qualities → v < 16 → Small y l → Small y (withSeen l y i v x)
+unfolding withSeen withBase
 put-small l y i v x hl hm hv h =
     let m = y .bases + i / 2 in
     let w = withHalf (i % 2) (getD l m 0) v in
@@ -60,8 +61,8 @@ with-own : (n b : ℕ) → b < 256 → withHalf n b (half n b) ≡ b
 with-own zero b h = omega arith
 with-own (suc n) b h = omega arith
 
-pub put-own : (l : List ℕ) (y : Layout) (i x : ℕ) → getD l (y .bases + i / 2) 0 < 256 → put l y i (baseAt l y i) x ≡ set l (y .qualities + i) x
-unfolding put putBase
+pub put-own : (l : List ℕ) (y : Layout) (i x : ℕ) → getD l (y .bases + i / 2) 0 < 256 → withSeen l y i (baseAt l y i) x ≡ set l (y .qualities + i) x
+unfolding withSeen withBase
 put-own l y i x h =
     let m = y .bases + i / 2 in
     ap (λ (b : ℕ). set (set l m b) (y .qualities + i) x) (with-own (i % 2) (getD l m 0) h) ∙ ap (λ (r : List ℕ). set r (y .qualities + i) x) (set-getD l m 0)

@@ -5,7 +5,8 @@ use mathlib.Core.List.{List, _∷_, _++_}
 use native.Mathlib.Omega.{arith}
 use lib.ListN.{length}
 use Rattle.stats.proofs.CountLaws.{room-less}
-use Rattle.positions.specs.Step.{Job, State, steps, row}
+use Rattle.positions.specs.Step.{Job, State}
+use Rattle.positions.specs.Treating.{steps, row}
 use Rattle.positions.proofs.StepLaws.{Running, steps-append, steps-length, steps-room, row-length}
 
 row-append : (i j c m : ℕ) → row i j (c + m) ≡ row i j c ++ row (i + c) (j + c) m

@@ -9,12 +9,15 @@ use lib.ListN.{getD, set}
 use lib.Seq.{set-getD}
 use Rattle.fields.specs.declared.Layout.{Layout}
 use Rattle.stats.specs.declared.CorrectionStats.{CorrectionStats}
-use Rattle.stats.specs.Counts.{counts, plus, Room, Adds}
+use Rattle.stats.specs.Counts.{counts, plus}
+use Rattle.stats.specs.Room.{Room, Adds}
 use Rattle.stats.proofs.CountLaws.{counts-as, plus-zero}
 use Rattle.strategy.specs.declared.Strategies.{Strategies}
 use Rattle.strategy.specs.Rule.{out}
-use Rattle.bases.specs.Base.{baseAt, qualityAt, put}
-use Rattle.positions.specs.Step.{job, State, state, ruled, wrote, step, steps, row}
+use Rattle.bases.specs.Base.{baseAt, qualityAt}
+use Rattle.bases.specs.Written.{withSeen}
+use Rattle.positions.specs.Step.{job, State, state, ruled}
+use Rattle.positions.specs.Treating.{wrote, step, steps, row}
 use Rattle.positions.proofs.StepLaws.{ruled-fine, Running, running-start, running-turn, row-end}
 use Rattle.positions.proofs.PointLaws.{Both}
 use Rattle.blocks.specs.declared.lane.Qualities.{Qualities}
@@ -47,7 +50,7 @@ module _ (w : Strategies) (y z : Layout) where
   step-beside a b h i j e c u r =
       let o = ruled (job w y z) a b i j in
       ap (λ (s : State). state (s .first) (s .second) (beside (s .stats) e c)) r
-      ∙ ap (state (put a y i (o .base1) (o .qual1)) (put b z j (o .base2) (o .qual2))) (plus-swap h (o .growth) (counts e e 0 c))
+      ∙ ap (state (withSeen a y i (o .base1) (o .qual1)) (withSeen b z j (o .base2) (o .qual2))) (plus-swap h (o .growth) (counts e e 0 c))
 
   -- ---- t positions are done, of which e agree and c of these are corrected
   pub record Adding (i j n : ℕ) (s₀ : State) (t : ℕ) (a b : List ℕ) (h : CorrectionStats) (e c : ℕ) : Type 0 where

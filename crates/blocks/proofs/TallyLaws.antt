@@ -12,11 +12,13 @@ use borrow.Author.Tests.{eq-eqb, ne-eqb, lt-ltb, le-ltb}
 use Rattle.fields.specs.declared.Layout.{Layout}
 use Rattle.fields.proofs.Arith.{eq-or-ne}
 use Rattle.stats.specs.declared.CorrectionStats.{CorrectionStats}
-use Rattle.stats.specs.Counts.{counts, plus, Room, Adds}
+use Rattle.stats.specs.Counts.{counts, plus}
+use Rattle.stats.specs.Room.{Room, Adds}
 use Rattle.stats.proofs.CountLaws.{counts-as}
 use Rattle.strategy.specs.declared.Strategies.{Strategies}
 use Rattle.bases.specs.Base.{baseAt, qualityAt}
-use Rattle.positions.specs.Step.{job, State, state, steps, row}
+use Rattle.positions.specs.Step.{job, State, state}
+use Rattle.positions.specs.Treating.{steps, row}
 use Rattle.positions.proofs.PointLaws.{Both}
 use Rattle.blocks.specs.declared.lane.Lane.{Lane}
 use Rattle.blocks.specs.declared.block.Lanes.{Lanes}

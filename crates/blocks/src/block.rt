@@ -10,9 +10,10 @@ ghost use mathlib.Core.Path.{_≡_};
 ghost use Prim.Native.Nat.{ℕ, _+_, _*_, _≤_, _<_};
 ghost use lib.ListN.{length, getD};
 ghost use lib.Seq.{sets};
-ghost use Rattle.fields.specs.Check.{Lies};
-ghost use Rattle.stats.specs.Counts.{Room};
-ghost use Rattle.positions.specs.Step.{state, job, steps, row};
+ghost use Rattle.fields.specs.Sound.{Lies};
+ghost use Rattle.stats.specs.Room.{Room};
+ghost use Rattle.positions.specs.Step.{state, job};
+ghost use Rattle.positions.specs.Treating.{steps, row};
 ghost use Rattle.blocks.specs.LaneRule.{laneOf};
 ghost use Rattle.blocks.specs.BlockParts.{LanesOf, Codes, Unpacked, masked, Gathered, picked};
 

@@ -7,9 +7,10 @@ use strategy::Strategies;
 ghost use mathlib.Core.Path.{_≡_};
 ghost use Prim.Native.Nat.{_+_, _*_, _≤_};
 ghost use lib.ListN.{length};
-ghost use Rattle.fields.specs.Check.{Lies};
-ghost use Rattle.stats.specs.Counts.{Room};
-ghost use Rattle.positions.specs.Step.{state, job, steps, row};
+ghost use Rattle.fields.specs.Sound.{Lies};
+ghost use Rattle.stats.specs.Room.{Room};
+ghost use Rattle.positions.specs.Step.{state, job};
+ghost use Rattle.positions.specs.Treating.{steps, row};
 
 // n shared positions in a row. Bases are written only where they differ, and the counts of
 // agreements are added up beside the others.

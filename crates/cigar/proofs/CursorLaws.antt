@@ -1,22 +1,22 @@
 -- Laws of a cursor's steps.
-use Prim.Native.Nat.{ℕ, zero, suc, _+_, _-_, _*_, _≤_, _<_, _%_, _/_}
-use mathlib.Core.Path.{_≡_, refl, sym, ap, ap₂, subst, _∙_}
-use mathlib.Core.List.{List, [], _∷_, _++_}
-use mathlib.Core.Option.{Option, none, some}
-use mathlib.Core.Logic.{_⊎_, inl, inr, ⊎-elim}
+use Prim.Native.Nat.{ℕ, zero, suc, _+_, _-_, _*_, _≤_, _<_}
+use mathlib.Core.Path.{_≡_, refl, sym, ap, ap₂, _∙_}
+use mathlib.Core.List.{List, [], _∷_}
+use mathlib.Core.Option.{none, some}
+use mathlib.Core.Logic.{_⊎_, ⊎-elim}
 use native.Mathlib.Omega.{arith}
 use native.Mathlib.Nat.{add-zero}
 use lib.ListN.{length, take, drop}
 use lib.Seq.{getD-take}
-use Rattle.cigar.specs.declared.Kind.{Kind}
-use Rattle.cigar.specs.declared.Kind.the-variants.{Both, Reference, Read, Neither, Unknown}
+use Rattle.cigar.specs.Operation.{Kind}
+use Rattle.cigar.specs.Operation.{Both, Reference, Read, Neither, Unknown}
 use Rattle.cigar.specs.declared.Cursor.{Cursor}
-use Rattle.cigar.specs.Operation.{kindOf, kind, len, readLen, refLen, readOf, refOf, readSum, refSum, opsOf}
+use Rattle.cigar.specs.Operation.{kind, len, readLen, refLen, readOf, refOf, readSum, refSum, opsOf}
 use Rattle.fields.specs.Number.{le}
-use Rattle.cigar.specs.Place.{runAt, opAt, offAt}
-use Rattle.cigar.specs.Passing.{restOps, curOff, readEnd, refEnd, tookKind, tookOperation, advanced, Kept, Stands}
+use Rattle.cigar.specs.Found.{opAt, offAt}
+use Rattle.cigar.specs.Passing.{cursor, runOf, runLen, restOps, curOff, readEnd, refEnd, tookKind, tookOperation, advanced, Kept, Stands}
 use Rattle.fields.proofs.Arith.{lt-or-le}
-use Rattle.cigar.proofs.PlaceLaws.{run-below, run-in, run-past, run-zero, off-below, ops-step, ops-short}
+use Rattle.cigar.proofs.PlaceLaws.{run-below, run-in, run-past, run-zero, off-below, ops-step}
 
 off-at : (ops : List ℕ) (p : ℕ) {q q′ r r′ : ℕ} → q ≡ q′ → r ≡ r′ → offAt ops q r p ≡ offAt ops q′ r′ p
 off-at ops p e f = ap₂ (λ (q r : ℕ). offAt ops q r p) e f
@@ -138,12 +138,19 @@ le-take (suc w) l e at h =
     let k : at < e = omega arith in
     ap₂ (λ (x y : ℕ). x + 256 * y) (getD-take e l at 0 k) (le-take w l e (at + 1) (omega arith))
 
--- the cursor that the code makes, by the kind that it matched
-pub took-as : (l : List ℕ) (e w : ℕ) (c : Cursor) (k k′ : Kind) → w ≡ le 4 l (c .at) → k ≡ kindOf (w % 16) → k ≡ k′ → c .at + 4 ≤ e
-    → tookKind k′ (w / 16) c ≡ tookOperation (take e l) c
-took-as l e w c k k′ ew ek e′ h =
-    let x : le 4 (take e l) (c .at) ≡ w = le-take 4 l e (c .at) h ∙ sym ew in
-    rw x (ap (λ (y : Kind). tookKind y (w / 16) c) (sym e′ ∙ ek))
+-- the cursor that the code makes
+pub took-run : (k : Kind) (n : ℕ) (c : Cursor) → cursor (c .at + 4) (c .offset .0 + (readOf k n - runOf k n)) (c .position .0 + (refOf k n - runOf k n)) (runOf k n) ≡ tookKind k n c
+took-run Both n c = ap₂ (λ (q r : ℕ). cursor (c .at + 4) q r n) (omega arith) (omega arith)
+took-run Reference n c = ap₂ (λ (q r : ℕ). cursor (c .at + 4) q r 0) (omega arith) (omega arith)
+took-run Read n c = ap₂ (λ (q r : ℕ). cursor (c .at + 4) q r 0) (omega arith) (omega arith)
+took-run Neither n c = ap₂ (λ (q r : ℕ). cursor (c .at + 4) q r 0) (omega arith) (omega arith)
+took-run Unknown n c = ap₂ (λ (q r : ℕ). cursor (c .at + 4) q r 0) (omega arith) (omega arith)
+
+pub took-as : (l : List ℕ) (e op : ℕ) (c : Cursor) (x a b : ℕ) → op ≡ le 4 l (c .at) → x ≡ runLen op → a ≡ readLen op → b ≡ refLen op → c .at + 4 ≤ e
+    → cursor (c .at + 4) (c .offset .0 + (a - x)) (c .position .0 + (b - x)) x ≡ tookOperation (take e l) c
+took-as l e op c x a b eo ex ea eb h =
+    let f : le 4 (take e l) (c .at) ≡ op = le-take 4 l e (c .at) h ∙ sym eo in
+    rw (f, ex, ea, eb) (took-run (kind op) (len op) c)
 
 pub took-past : (cig : List ℕ) (c : Cursor) → (tookOperation cig c) .at ≡ c .at + 4
 took-past cig c = took-at c (kind (le 4 cig (c .at))) (len (le 4 cig (c .at)))

@@ -4,26 +4,22 @@ use mathlib.Core.Path.{_≡_, refl, sym, ap, ap₂, _∙_}
 use mathlib.Core.List.{List, [], _∷_}
 use mathlib.Core.Bool.{Bool, true, false, cond, _&&_, not}
 use native.Mathlib.Omega.{arith}
-use lib.ListN.{length, take, drop}
+use lib.ListN.{length, take}
 use lib.Seq.{length-take-le}
 use lib.Dec.{eqb, ltb}
 use borrow.Author.Tests.{lt-ltb, le-ltb, eq-eqb, ne-eqb, eqb-true, ltb-false}
-use Rattle.refusal.specs.declared.Refusal.{Refusal}
 use Rattle.refusal.specs.declared.Refusal.the-variants.{ReadTotal, ReferenceEnd}
 use Rattle.fields.specs.declared.Layout.{Layout}
 use Rattle.fields.specs.Number.{le}
-use Rattle.cigar.specs.declared.Kind.{Kind}
-use Rattle.cigar.specs.declared.Kind.the-variants.{Both, Reference, Read, Neither, Unknown}
+use Rattle.cigar.specs.Operation.{Kind}
+use Rattle.cigar.specs.Operation.{Both, Reference, Read, Neither, Unknown}
 use Rattle.cigar.specs.declared.Walk.{Walk}
 use Rattle.cigar.specs.declared.Walk.the-variants.{Totals, UnknownCode, ZeroLength}
-use Rattle.cigar.specs.declared.Operations.{Operations}
 use Rattle.cigar.specs.declared.Operations.the-variants as Ops
-use Rattle.cigar.specs.declared.Span.{Span}
 use Rattle.cigar.specs.declared.Span.the-variants as Spans
-use Rattle.fields.specs.declared.RefPos.{RefPos}
-use Rattle.cigar.specs.Operation.{kindOf, kind, len, readLen, refLen, readOf, refOf, readSum, refSum, opsOf, operations}
-use Rattle.cigar.specs.Judge.{onKind, onLength, faultOr, walkOf, judged, operationsOf, spanOf}
-use Rattle.fields.proofs.Arith.{lt-or-le}
+use Rattle.cigar.specs.declared.Extent.{Extent}
+use Rattle.cigar.specs.Operation.{kindOf, kind, len, readLen, refLen, readSum, refSum, operations}
+use Rattle.cigar.specs.Judge.{onKind, onLength, faultOr, walkOf, judged, operationsOf, extent, spanOf}
 use Rattle.cigar.proofs.PlaceLaws.{kind-bad, ops-step, ops-short}
 use Rattle.cigar.proofs.CursorLaws.{le-take}
 
@@ -91,16 +87,14 @@ module _ (l : List ℕ) (from end : ℕ) (fits : end ≤ length l) where
       pub walking-zero : w % 16 ≤ 8 → w / 16 ≡ 0 → ZeroLength ≡ walkOf (operations from end l)
       walking-zero k e = sym (known-kind (w % 16) _ k ∙ ap (λ (x : ℕ). onLength x (fromHere (operations (at + 4) end l) (q + readLen w) (r + refLen w))) e) ∙ next
 
-      pub walking-turn : (k : Kind) (a b : ℕ) → k ≡ kindOf (w % 16) → w < 4294967296 → w % 16 ≤ 8 → (w / 16 ≡ 0 → ⊥) → (a ≡ readOf k (w / 16)) × (a ≤ w / 16)
-          → (b ≡ refOf k (w / 16)) × (b ≤ w / 16) → Walking l from end (at + 4) (q + a) (r + b)
-      walking-turn k a b ek hw hc hm ha hb =
-          let fa : a ≡ readLen w = ha .0 ∙ ap (λ (x : Kind). readOf x (w / 16)) ek in
-          let fb : b ≡ refLen w = hb .0 ∙ ap (λ (x : Kind). refOf x (w / 16)) ek in
+      pub walking-turn : (a b : ℕ) → w < 4294967296 → w % 16 ≤ 8 → (w / 16 ≡ 0 → ⊥) → (a ≡ readLen w) × (a ≤ w / 16) → (b ≡ refLen w) × (b ≤ w / 16)
+          → Walking l from end (at + 4) (q + a) (r + b)
+      walking-turn a b hw hc hm ha hb =
           record {
             low = more;
             reads = omega (arith, h .reads, ha .1);
             refs = omega (arith, h .refs, hb .1);
-            left = rw (fa, fb) (sym (known-kind (w % 16) _ hc ∙ some-length (w / 16) _ hm) ∙ next);
+            left = rw (ha .0, hb .0) (sym (known-kind (w % 16) _ hc ∙ some-length (w / 16) _ hm) ∙ next);
           }
 
 -- ---- what is judged of the walk's answer
@@ -188,16 +182,21 @@ module _ (y : Layout) (l : List ℕ) (place : ℕ) where
       go UnknownCode f g = let z : _≡_ {A = ℕ} 0 1 = cc in absurd (omega arith)
       go ZeroLength f g = let z : _≡_ {A = ℕ} 0 1 = cc in absurd (omega arith)
 
-pub record Started (pos uses : ℕ) (start : RefPos) : Type 0 where
-  pub first : start .0 ≡ pos + 1
+pub record Covered (pos uses : ℕ) (e : Extent) : Type 0 where
+  pub first : e .start .0 ≡ pos + 1
+  pub past : e .end .0 ≡ pos + 1 + uses
   pub last : pos + uses ≤ 2147483646
 
-pub good-span : (pos uses place : ℕ) (start : RefPos) → spanOf pos uses place ≡ Spans.Starts start → Started pos uses start
+pub good-span : (pos uses place : ℕ) (e : Extent) → spanOf pos uses place ≡ Spans.Covers e → Covered pos uses e
 unfolding spanOf
-good-span pos uses place start e = go (ltb 2147483646 (pos + uses)) refl e
+good-span pos uses place e h = go (ltb 2147483646 (pos + uses)) refl h
   where
-    go : (t : Bool) → ltb 2147483646 (pos + uses) ≡ t → cond t (Spans.Refused (ReferenceEnd place)) (Spans.Starts (record { 0 = pos + 1 })) ≡ Spans.Starts start → Started pos uses start
+    go : (t : Bool) → ltb 2147483646 (pos + uses) ≡ t → cond t (Spans.Refused (ReferenceEnd place)) (Spans.Covers (extent pos uses)) ≡ Spans.Covers e → Covered pos uses e
     go true f g = let z : _≡_ {A = ℕ} 0 1 = cc in absurd (omega arith)
     go false f g =
-        let s : record { 0 = pos + 1 } ≡ start = cc in
-        record { first = sym (ap (λ (p : RefPos). p .0) s); last = ltb-false 2147483646 (pos + uses) f }
+        let s : extent pos uses ≡ e = cc in
+        record {
+          first = sym (ap (λ (x : Extent). x .start .0) s);
+          past = sym (ap (λ (x : Extent). x .end .0) s);
+          last = ltb-false 2147483646 (pos + uses) f;
+        }

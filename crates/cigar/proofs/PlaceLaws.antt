@@ -1,21 +1,19 @@
 -- Laws of runs and operations.
-use Prim.Native.Nat.{ℕ, zero, suc, _+_, _-_, _*_, _/_, _%_, _≤_, _<_}
-use mathlib.Core.Path.{_≡_, refl, sym, ap, ap₂, _∙_}
-use mathlib.Core.List.{List, [], _∷_, _++_}
+use Prim.Native.Nat.{ℕ, zero, suc, _+_, _-_, _*_, _/_, _%_, _^_, _≤_, _<_}
+use mathlib.Core.Path.{_≡_, refl, ap, _∙_}
+use mathlib.Core.List.{List, [], _∷_}
 use mathlib.Core.Option.{Option, none, some}
-use mathlib.Core.Bool.{Bool, true, false, cond}
-use mathlib.Core.Logic.{_⊎_, inl, inr, ⊎-elim}
+use mathlib.Core.Logic.{_⊎_, ⊎-elim}
 use native.Mathlib.Omega.{arith}
-use native.Mathlib.Numerals.{add-one, add-two, add-three, add-four}
-use native.Mathlib.Nat.{zero-add, add-zero, suc-add}
-use lib.ListN.{length, getD, take, drop, length-drop, List·getD-eq-default}
+use native.Mathlib.Numerals.{add-one, add-four}
+use lib.ListN.{length, drop, length-drop, List·getD-eq-default}
 use lib.Seq.{drop-cons}
-use lib.Dec.{ltb, leb}
 use borrow.Author.Tests.{lt-ltb, le-ltb, le-leb, lt-leb}
-use Rattle.cigar.specs.declared.Kind.{Kind}
-use Rattle.cigar.specs.declared.Kind.the-variants.{Both, Reference, Read, Neither, Unknown}
-use Rattle.cigar.specs.Operation.{kindOf, kind, len, readLen, refLen, readOf, refOf, readSum, refSum, opsOf}
-use Rattle.cigar.specs.Place.{runAt, opAt, offAt}
+use Rattle.cigar.specs.Operation.{Kind}
+use Rattle.cigar.specs.Operation.{Both, Reference, Read, Neither, Unknown}
+use Rattle.cigar.specs.Operation.{kindOf, kind, len, readLen, refLen, readOf, refOf, opsOf}
+use Rattle.cigar.specs.Found.{runAt, opAt, offAt}
+use Rattle.cigar.specs.Passing.{runOf, runLen}
 use Rattle.fields.specs.Number.{le}
 use Rattle.fields.proofs.Arith.{lt-or-le}
 
@@ -50,6 +48,77 @@ unfolding offAt
 off-below [] q r p h = refl
 off-below (w ∷ ws) q r p h =
     op-below (kind w) (len w) q r p _ h ∙ off-below ws (q + readLen w) (r + refLen w) p (omega arith)
+
+-- ---- what an operation uses, by the bits of the code
+Told : ℕ → Type 0
+Told c = (403 / 2 ^ c % 2 ≡ readOf (kindOf c) 1) × (397 / 2 ^ c % 2 ≡ refOf (kindOf c) 1)
+
+told : (c : ℕ) → c < 16 → Told c
+unfolding Told
+told zero h = (refl, refl)
+told (suc zero) h = (refl, refl)
+told (suc (suc zero)) h = (refl, refl)
+told (suc (suc (suc zero))) h = (refl, refl)
+told (suc (suc (suc (suc zero)))) h = (refl, refl)
+told (suc (suc (suc (suc (suc zero))))) h = (refl, refl)
+told (suc (suc (suc (suc (suc (suc zero)))))) h = (refl, refl)
+told (suc (suc (suc (suc (suc (suc (suc zero))))))) h = (refl, refl)
+told (suc (suc (suc (suc (suc (suc (suc (suc zero)))))))) h = (refl, refl)
+told (suc (suc (suc (suc (suc (suc (suc (suc (suc zero))))))))) h = (refl, refl)
+told (suc (suc (suc (suc (suc (suc (suc (suc (suc (suc zero)))))))))) h = (refl, refl)
+told (suc (suc (suc (suc (suc (suc (suc (suc (suc (suc (suc zero))))))))))) h = (refl, refl)
+told (suc (suc (suc (suc (suc (suc (suc (suc (suc (suc (suc (suc zero)))))))))))) h = (refl, refl)
+told (suc (suc (suc (suc (suc (suc (suc (suc (suc (suc (suc (suc (suc zero))))))))))))) h = (refl, refl)
+told (suc (suc (suc (suc (suc (suc (suc (suc (suc (suc (suc (suc (suc (suc zero)))))))))))))) h = (refl, refl)
+told (suc (suc (suc (suc (suc (suc (suc (suc (suc (suc (suc (suc (suc (suc (suc zero))))))))))))))) h = (refl, refl)
+told (suc (suc (suc (suc (suc (suc (suc (suc (suc (suc (suc (suc (suc (suc (suc (suc n)))))))))))))))) h = absurd (omega arith)
+
+read-times : (k : Kind) (n : ℕ) → readOf k 1 * n ≡ readOf k n
+read-times Both n = omega arith
+read-times Reference n = omega arith
+read-times Read n = omega arith
+read-times Neither n = omega arith
+read-times Unknown n = omega arith
+
+ref-times : (k : Kind) (n : ℕ) → refOf k 1 * n ≡ refOf k n
+ref-times Both n = omega arith
+ref-times Reference n = omega arith
+ref-times Read n = omega arith
+ref-times Neither n = omega arith
+ref-times Unknown n = omega arith
+
+run-times : (k : Kind) (n : ℕ) → refOf k 1 * readOf k n ≡ runOf k n
+run-times Both n = omega arith
+run-times Reference n = omega arith
+run-times Read n = omega arith
+run-times Neither n = omega arith
+run-times Unknown n = omega arith
+
+-- no more than its length
+uses-most : (k : Kind) (n : ℕ) → (readOf k n ≤ n) × (refOf k n ≤ n) × (runOf k n ≤ readOf k n) × (runOf k n ≤ refOf k n)
+uses-most Both n = (omega arith, omega arith, omega arith, omega arith)
+uses-most Reference n = (omega arith, omega arith, omega arith, omega arith)
+uses-most Read n = (omega arith, omega arith, omega arith, omega arith)
+uses-most Neither n = (omega arith, omega arith, omega arith, omega arith)
+uses-most Unknown n = (omega arith, omega arith, omega arith, omega arith)
+
+module _ (op : ℕ) where
+  code : op % 16 < 16
+  code = omega arith
+
+  pub read-told : (403 / 2 ^ (op % 16) % 2 * (op / 16) ≡ readLen op) × (readLen op ≤ op / 16)
+  unfolding Told
+  read-told = (ap (λ (x : ℕ). x * (op / 16)) (told (op % 16) code .0) ∙ read-times (kind op) (len op), uses-most (kind op) (len op) .0)
+
+  pub ref-told : (397 / 2 ^ (op % 16) % 2 * (op / 16) ≡ refLen op) × (refLen op ≤ op / 16)
+  unfolding Told
+  ref-told = (ap (λ (x : ℕ). x * (op / 16)) (told (op % 16) code .1) ∙ ref-times (kind op) (len op), uses-most (kind op) (len op) .1)
+
+  pub run-told : (397 / 2 ^ (op % 16) % 2 * readLen op ≡ runLen op) × (runLen op ≤ readLen op) × (runLen op ≤ refLen op)
+  unfolding Told
+  run-told =
+      let m = uses-most (kind op) (len op) in
+      (ap (λ (x : ℕ). x * readLen op) (told (op % 16) code .1) ∙ run-times (kind op) (len op), m .2, m .3)
 
 -- ---- the operations of a list of bytes
 pub kind-bad : (c : ℕ) → 9 ≤ c → kindOf c ≡ Unknown

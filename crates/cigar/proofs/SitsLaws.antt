@@ -1,6 +1,6 @@
 -- The document's sentence and the function agree; a base sits at one position, and a position has at most one base.
-use Prim.Native.Nat.{ℕ, zero, suc, _+_, _-_, _≤_, _<_}
-use mathlib.Core.Path.{_≡_, refl, sym, ap, subst, _∙_}
+use Prim.Native.Nat.{ℕ, _+_, _-_, _≤_, _<_}
+use mathlib.Core.Path.{_≡_, refl, sym, ap, _∙_}
 use mathlib.Core.List.{List, [], _∷_, _++_}
 use mathlib.Core.Option.{Option, none, some}
 use mathlib.Core.Logic.{_⊎_, inl, inr, ⊎-elim}
@@ -10,12 +10,13 @@ use lib.Dec.{ltb}
 use borrow.Author.Tests.{lt-ltb, ltb-true}
 use Rattle.fields.specs.declared.RefPos.{RefPos}
 use Rattle.fields.specs.declared.ReadOffset.{ReadOffset}
-use Rattle.cigar.specs.declared.Kind.{Kind}
-use Rattle.cigar.specs.declared.Kind.the-variants.{Both, Reference, Read, Neither, Unknown}
+use Rattle.cigar.specs.Operation.{Kind}
+use Rattle.cigar.specs.Operation.{Both, Reference, Read, Neither, Unknown}
 use Rattle.cigar.specs.Operation.{kind, len, readLen, refLen, readOf, refOf, readSum, refSum}
-use Rattle.cigar.specs.Place.{Sits, runAt, opAt, offAt, ofBases, baseOn}
+use Rattle.cigar.specs.Place.{Sits}
+use Rattle.cigar.specs.Found.{opAt, offAt, ofBases, baseOn}
 use Rattle.fields.proofs.Arith.{lt-or-le}
-use Rattle.cigar.proofs.PlaceLaws.{run-below, run-in, run-past, off-below}
+use Rattle.cigar.proofs.PlaceLaws.{run-below, run-in, run-past}
 
 -- an operation that is passed: positions past it are left to what follows
 op-past : (k : Kind) (n q r p : ℕ) (x : Option ℕ) → r + refOf k n ≤ p → opAt k n q r p x ≡ x

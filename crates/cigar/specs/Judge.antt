@@ -1,17 +1,18 @@
 -- A record's operations judged: refusals 5 to 8.
 use Prim.Native.Nat.{ℕ, zero, suc, _+_}
 use mathlib.Core.List.{List, [], _∷_}
-use mathlib.Core.Bool.{Bool, cond, _&&_, not}
+use mathlib.Core.Bool.{cond, _&&_, not}
 use lib.ListN.{length}
 use lib.Dec.{eqb, ltb}
 use Rattle.refusal.specs.declared.Refusal.the-variants.{OperationCode, OperationLength, ReadTotal, ReferenceEnd}
 use Rattle.fields.specs.declared.Layout.{Layout}
-use Rattle.cigar.specs.declared.Kind.{Kind}
-use Rattle.cigar.specs.declared.Kind.the-variants.{Both, Reference, Read, Neither, Unknown}
+use Rattle.cigar.specs.Operation.{Kind}
+use Rattle.cigar.specs.Operation.{Both, Reference, Read, Neither, Unknown}
 use Rattle.cigar.specs.declared.Walk.{Walk}
 use Rattle.cigar.specs.declared.Walk.the-variants.{Totals, UnknownCode, ZeroLength}
 use Rattle.cigar.specs.declared.Operations.{Operations}
 use Rattle.cigar.specs.declared.Operations.the-variants as Ops
+use Rattle.cigar.specs.declared.Extent.{Extent}
 use Rattle.cigar.specs.declared.Span.{Span}
 use Rattle.cigar.specs.declared.Span.the-variants as Spans
 use Rattle.cigar.specs.Operation.{kind, len, readSum, refSum, operations}
@@ -45,6 +46,10 @@ judged count n place ZeroLength = Ops.Refused (OperationLength place)
 unfoldable pub operationsOf : Layout → List ℕ → ℕ → Operations
 operationsOf y s place = judged (y .count) (length (operations (y .operations) (y .bases) s)) place (walkOf (operations (y .operations) (y .bases) s))
 
--- 8; the first base's position is counted from 1
+-- the positions from pos on, counted from 1, of an alignment that uses so much of the reference
+abbrev pub extent : ℕ → ℕ → Extent
+extent pos uses = record { start = record { 0 = pos + 1 }; end = record { 0 = pos + 1 + uses } }
+
+-- 8
 unfoldable pub spanOf : ℕ → ℕ → ℕ → Span
-spanOf pos uses place = cond (ltb 2147483646 (pos + uses)) (Spans.Refused (ReferenceEnd place)) (Spans.Starts (record { 0 = pos + 1 }))
+spanOf pos uses place = cond (ltb 2147483646 (pos + uses)) (Spans.Refused (ReferenceEnd place)) (Spans.Covers (extent pos uses))

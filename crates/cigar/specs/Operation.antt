@@ -3,8 +3,14 @@ use Prim.Native.Nat.{ℕ, _+_, _/_, _%_}
 use mathlib.Core.List.{List, [], _∷_}
 use lib.ListN.{getD, take, drop}
 use Rattle.fields.specs.Number.{le}
-use Rattle.cigar.specs.declared.Kind.{Kind}
-use Rattle.cigar.specs.declared.Kind.the-variants.{Both, Reference, Read, Neither, Unknown}
+
+-- what an operation uses: read and reference, one of them, or neither; no operation has a code above 8
+pub data Kind : Type 0 where
+  Both : Kind
+  Reference : Kind
+  Read : Kind
+  Neither : Kind
+  Unknown : Kind
 
 -- codes 0 to 8 are M I D N S H P = X
 abbrev pub kindOf : ℕ → Kind

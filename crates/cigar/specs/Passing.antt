@@ -5,11 +5,11 @@ use mathlib.Core.List.{List, []}
 use mathlib.Core.Option.{Option}
 use lib.ListN.{drop, length}
 use Rattle.fields.specs.Number.{le}
-use Rattle.cigar.specs.declared.Kind.{Kind}
-use Rattle.cigar.specs.declared.Kind.the-variants.{Both, Reference, Read, Neither, Unknown}
+use Rattle.cigar.specs.Operation.{Kind}
+use Rattle.cigar.specs.Operation.{Both, Reference, Read, Neither, Unknown}
 use Rattle.cigar.specs.declared.Cursor.{Cursor}
 use Rattle.cigar.specs.Operation.{kind, len, readSum, refSum, opsOf}
-use Rattle.cigar.specs.Place.{runAt, offAt}
+use Rattle.cigar.specs.Found.{runAt, offAt}
 
 -- the operations after the run at hand; `cig` are the record's bytes up to the end of its operations
 abbrev pub restOps : List ℕ → Cursor → List ℕ
@@ -28,6 +28,17 @@ refEnd cig c = c .position .0 + c .left + refSum (restOps cig c)
 
 abbrev pub cursor : ℕ → ℕ → ℕ → ℕ → Cursor
 cursor at q r n = record { at = at; offset = record { 0 = q }; position = record { 0 = r }; left = n }
+
+-- how many bases an operation places on the reference
+abbrev pub runOf : Kind → ℕ → ℕ
+runOf Both n = n
+runOf Reference n = 0
+runOf Read n = 0
+runOf Neither n = 0
+runOf Unknown n = 0
+
+abbrev pub runLen : ℕ → ℕ
+runLen op = runOf (kind op) (len op)
 
 -- the cursor past an operation of the kind k and the length n
 abbrev pub tookKind : Kind → ℕ → Cursor → Cursor

@@ -5,23 +5,19 @@ use fields::ReadOffset;
 use fields::RefPos;
 use refusal::Refusal;
 ghost use mathlib.Core.Path.{_≡_};
-ghost use Prim.Native.Nat.{_+_, _≤_, _<_};
+ghost use Prim.Native.Nat.{_+_, _/_, _≤_, _<_};
 ghost use lib.ListN.{length, take};
 ghost use Rattle.fields.specs.Number.{le};
-ghost use Rattle.fields.specs.Check.{Lies};
-ghost use Rattle.cigar.specs.Operation.{kindOf, readOf, refOf, operations};
+ghost use Rattle.fields.specs.Sound.{Lies};
+ghost use Rattle.cigar.specs.Operation.{readLen, refLen, operations};
 ghost use Rattle.cigar.specs.Judge.{walkOf, operationsOf, spanOf};
-ghost use Rattle.cigar.specs.Passing.{tookOperation, advanced, Stands, Settled};
+ghost use Rattle.cigar.specs.Passing.{runLen, tookOperation, advanced, Stands, Settled};
 
-// What an operation uses: read and reference, one of them, or neither. No operation has a code
-// above 8.
-pub enum Kind {
-    Both,
-    Reference,
-    Read,
-    Neither,
-    Unknown,
-}
+// Which codes use the read, and which the reference: bit c for code c. Codes 0 to 8 are
+// M I D N S H P = X.
+const ON_READ: usize = 403;
+
+const ON_REFERENCE: usize = 397;
 
 // A place in an alignment: the next `left` bases, from `offset` on, sit at the positions from
 // `position` on; `at` is the byte at which the operation after them begins.
@@ -45,70 +41,40 @@ pub enum Operations {
     Refused(Refusal),
 }
 
-// Where an alignment starts, or the refusal of one that ends too late.
+// The positions that an alignment covers: from `start` on, up to but not `end`.
+pub struct Extent {
+    pub start: RefPos,
+    pub end: RefPos,
+}
+
+// What an alignment covers, or the refusal of one that ends too late.
 pub enum Span {
-    Starts(RefPos),
+    Covers(Extent),
     Refused(Refusal),
 }
 
-// Codes 0 to 8 are M I D N S H P = X.
-pub fn kind_of(code: usize) -> Kind
-    ensures { λ r. ⌜ r ≡ kindOf code ⌝ }
+// How much of the read an operation uses.
+fn read_len(op: usize) -> usize
+    requires { ⌜ op < 4294967296 ⌝ }
+    ensures { λ r. ⌜ (r ≡ readLen op) × (r ≤ op / 16) ⌝ }
 {
-    if code == 0 {
-        return Kind::Both;
-    }
-    if code == 1 {
-        return Kind::Read;
-    }
-    if code == 2 {
-        return Kind::Reference;
-    }
-    if code == 3 {
-        return Kind::Reference;
-    }
-    if code == 4 {
-        return Kind::Read;
-    }
-    if code == 5 {
-        return Kind::Neither;
-    }
-    if code == 6 {
-        return Kind::Neither;
-    }
-    if code == 7 {
-        return Kind::Both;
-    }
-    if code == 8 {
-        return Kind::Both;
-    }
-    Kind::Unknown
-}
-
-// How much of the read an operation of this kind and length uses.
-pub fn read_of(k: Kind, n: usize) -> usize
-    ensures { λ r. ⌜ (r ≡ readOf k n) × (r ≤ n) ⌝ }
-{
-    match k {
-        Kind::Both => n,
-        Kind::Reference => 0,
-        Kind::Read => n,
-        Kind::Neither => 0,
-        Kind::Unknown => 0,
-    }
+    (ON_READ >> (op % 16)) % 2 * (op / 16)
 }
 
 // How much of the reference it uses.
-pub fn ref_of(k: Kind, n: usize) -> usize
-    ensures { λ r. ⌜ (r ≡ refOf k n) × (r ≤ n) ⌝ }
+fn ref_len(op: usize) -> usize
+    requires { ⌜ op < 4294967296 ⌝ }
+    ensures { λ r. ⌜ (r ≡ refLen op) × (r ≤ op / 16) ⌝ }
 {
-    match k {
-        Kind::Both => n,
-        Kind::Reference => n,
-        Kind::Read => 0,
-        Kind::Neither => 0,
-        Kind::Unknown => 0,
-    }
+    (ON_REFERENCE >> (op % 16)) % 2 * (op / 16)
+}
+
+// How many bases it places on the reference.
+fn run_len(op: usize) -> usize
+    requires { ⌜ op < 4294967296 ⌝ }
+    ensures { λ r. ⌜ (r ≡ runLen op) × (r ≤ readLen op) × (r ≤ refLen op) ⌝ }
+{
+    (ON_REFERENCE >> (op % 16)) % 2 * read_len(op)
 }
 
 // The operation at a byte: its length times 16, and its code.
@@ -128,18 +94,15 @@ fn walk_operations(s: &[u8], from: usize, end: usize) -> Walk
     let mut read = 0;
     let mut reference = 0;
     while 4 <= end - at {
-        let w = operation_at(s, at);
-        let code = w % 16;
-        let n = w / 16;
-        if 8 < code {
+        let op = operation_at(s, at);
+        if 8 < op % 16 {
             return Walk::UnknownCode;
         }
-        if n == 0 {
+        if op / 16 == 0 {
             return Walk::ZeroLength;
         }
-        let k = kind_of(code);
-        read += read_of(k, n);
-        reference += ref_of(k, n);
+        read += read_len(op);
+        reference += ref_len(op);
         at += 4;
     }
     Walk::Totals(read, reference)
@@ -183,7 +146,10 @@ pub fn check_span(pos: u32, uses: usize, place: u16) -> Span
     if 2147483646 - start < uses {
         return Span::Refused(Refusal::ReferenceEnd(place));
     }
-    Span::Starts(RefPos(start + 1))
+    Span::Covers(Extent {
+        start: RefPos(start + 1),
+        end: RefPos(start + 1 + uses),
+    })
 }
 
 // The cursor past the operation at hand, which lies before `end`.
@@ -192,40 +158,13 @@ fn take_operation(s: &[u8], end: usize, c: Cursor) -> Cursor
     ensures { λ r. ⌜ r ≡ tookOperation (take end (now (s .entry))) c ⌝ }
 {
     let at = c.at;
-    let w = operation_at(s, at);
-    let n = w / 16;
-    let k = kind_of(w % 16);
-    match k {
-        Kind::Both => Cursor {
-            at: at + 4,
-            offset: ReadOffset(c.offset.0),
-            position: RefPos(c.position.0),
-            left: n,
-        },
-        Kind::Reference => Cursor {
-            at: at + 4,
-            offset: ReadOffset(c.offset.0),
-            position: RefPos(c.position.0 + n),
-            left: 0,
-        },
-        Kind::Read => Cursor {
-            at: at + 4,
-            offset: ReadOffset(c.offset.0 + n),
-            position: RefPos(c.position.0),
-            left: 0,
-        },
-        Kind::Neither => Cursor {
-            at: at + 4,
-            offset: ReadOffset(c.offset.0),
-            position: RefPos(c.position.0),
-            left: 0,
-        },
-        Kind::Unknown => Cursor {
-            at: at + 4,
-            offset: ReadOffset(c.offset.0),
-            position: RefPos(c.position.0),
-            left: 0,
-        },
+    let op = operation_at(s, at);
+    let run = run_len(op);
+    Cursor {
+        at: at + 4,
+        offset: ReadOffset(c.offset.0 + (read_len(op) - run)),
+        position: RefPos(c.position.0 + (ref_len(op) - run)),
+        left: run,
     }
 }
 

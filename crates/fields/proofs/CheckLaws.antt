@@ -11,7 +11,8 @@ use borrow.Author.Tests.{ltb-false}
 use Rattle.refusal.specs.declared.Refusal.{Refusal}
 use Rattle.fields.specs.Number.{le}
 use Rattle.fields.specs.Layout.{Header, header, basesAt, tagsAt, layoutOf}
-use Rattle.fields.specs.Check.{checkOf, Sound}
+use Rattle.fields.specs.Check.{checkOf}
+use Rattle.fields.specs.Sound.{Sound}
 use Rattle.fields.specs.declared.Layout.{Layout}
 use Rattle.fields.specs.declared.Checked.{Checked}
 use Rattle.fields.specs.declared.Checked.the-variants.{Good, Bad}

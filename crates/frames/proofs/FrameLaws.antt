@@ -18,7 +18,8 @@ use Rattle.fields.specs.declared.Checked.{Checked}
 use Rattle.fields.specs.declared.Checked.the-variants.{Good, Bad}
 use Rattle.fields.specs.Number.{le}
 use Rattle.fields.specs.Layout.{layoutOf}
-use Rattle.fields.specs.Check.{checkOf, Sound}
+use Rattle.fields.specs.Check.{checkOf}
+use Rattle.fields.specs.Sound.{Sound}
 use Rattle.fields.proofs.CheckLaws.{good-sound}
 use Rattle.frames.specs.declared.Frame.{Frame}
 use Rattle.frames.specs.declared.Frame.the-variants.{To, Refused}

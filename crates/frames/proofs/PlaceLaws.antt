@@ -10,7 +10,7 @@ use lib.ListN.{length, getD, take, drop}
 use lib.Seq.{getD-take, getD-drop}
 use Rattle.fields.proofs.Arith.{lt-or-le}
 use Rattle.fields.specs.Layout.{layoutOf}
-use Rattle.fields.specs.Check.{Sound}
+use Rattle.fields.specs.Sound.{Sound}
 use Rattle.frames.specs.Part.{part, splice}
 use Rattle.frames.specs.Frame.{beginOf, startOf, endOf, recordOf, putRecord}
 use Rattle.frames.specs.Table.{Placed}

@@ -4,7 +4,7 @@ use mathlib.Core.Path.{_≡_}
 use mathlib.Core.List.{List}
 use lib.ListN.{length, getD}
 use Rattle.fields.specs.Layout.{layoutOf}
-use Rattle.fields.specs.Check.{Sound}
+use Rattle.fields.specs.Sound.{Sound}
 use Rattle.frames.specs.Frame.{beginOf, recordOf}
 use Rattle.frames.specs.declared.Framing.{Framing}
 use Rattle.frames.specs.declared.Framing.the-variants.{Whole, Broken}

@@ -30,9 +30,11 @@ use Rattle.frames.specs.declared.Framing.the-variants.{Whole, Broken}
 use Rattle.frames.specs.Frame.{frameEnd, beginOf, startOf, endOf, frameOf, onFrame, framesFrom, framesOf}
 use Rattle.frames.proofs.FrameLaws.{to-framed}
 use Rattle.mates.specs.Register.{matesOf, mateCons, pairsFrom, pairsOf}
-use Rattle.mates.specs.Promise.{Mates, Among, here, later, one, times, Once}
+use Rattle.fields.specs.Among.{Among}
+use Rattle.fields.proofs.AmongLaws.{here, later, among-cons, among-none}
+use Rattle.mates.specs.Promise.{Mates, one, times, Once}
 use Rattle.mates.proofs.OnceLaws.{pairs-once}
-use Rattle.mates.proofs.MateLaws.{Made, mate-mates, mates-mate, among-cons, among-some, among-mates, mates-among}
+use Rattle.mates.proofs.MateLaws.{Made, mate-mates, mates-mate, among-mates, mates-among}
 use Rattle.verdicts.specs.declared.Verdict.{Verdict}
 use Rattle.verdicts.specs.declared.Verdict.the-variants as Verdicts
 use Rattle.verdicts.specs.Judged.{pairAt, atIndex, answered, verdictAt, onVerdict, judgeBy}
@@ -41,23 +43,23 @@ use Rattle.applying.proofs.WrittenLaws.{written-size, written-first, written-se
 use Rattle.group.specs.declared.GroupAnswer.{GroupAnswer}
 use Rattle.group.specs.declared.GroupAnswer.the-variants.{Done, Refused}
 use Rattle.group.specs.Group.{Ended, ended, onPairs, onFrames, framedOf, onNumbered, groupOf}
-use Rattle.group.specs.Promise.{Paired, Outside, growths, Accepted, FirstRefused}
+use Rattle.group.specs.Promise.{Paired, Elsewhere, pairGrowths, Accepted, FirstRefused}
 
 -- ---- the pairs
 pub paired : (s : List ℕ) (n : ℕ) → Paired s n (pairsOf s n)
 paired s n = record { all = mates-among s n; only = among-mates s n; once = pairs-once s n }
 
 -- a record that stands in the list is in a pair of it
-times-among : (l : List (ℕ × ℕ)) (k : ℕ) → 0 < times l k → ((j : ℕ) × Among k j l) ⊎ ((j : ℕ) × Among j k l)
+times-among : (l : List (ℕ × ℕ)) (k : ℕ) → 0 < times l k → ((j : ℕ) × Among l k j) ⊎ ((j : ℕ) × Among l j k)
 unfolding times
 times-among [] k h = absurd (omega arith)
 times-among (e ∷ l) k h = go (times-among l k) (eqb (e .0) k) refl (eqb (e .1) k) refl h
   where
-    go : (0 < times l k → ((j : ℕ) × Among k j l) ⊎ ((j : ℕ) × Among j k l)) → (t : Bool) → eqb (e .0) k ≡ t → (v : Bool) → eqb (e .1) k ≡ v → 0 < one t + one v + times l k
-        → ((j : ℕ) × Among k j (e ∷ l)) ⊎ ((j : ℕ) × Among j k (e ∷ l))
-    go up true a v b q = inl (e .1, rw (sym (eqb-true (e .0) k a)) here)
-    go up false a true b q = inr (e .0, rw (sym (eqb-true (e .1) k b)) here)
-    go up false a false b q = ⊎-elim (λ y. inl (y .0, later (y .1))) (λ y. inr (y .0, later (y .1))) (up (omega arith))
+    go : (0 < times l k → ((j : ℕ) × Among l k j) ⊎ ((j : ℕ) × Among l j k)) → (t : Bool) → eqb (e .0) k ≡ t → (v : Bool) → eqb (e .1) k ≡ v → 0 < one t + one v + times l k
+        → ((j : ℕ) × Among (e ∷ l) k j) ⊎ ((j : ℕ) × Among (e ∷ l) j k)
+    go up true a v b q = inl (e .1, rw (sym (eqb-true (e .0) k a)) (here e l))
+    go up false a true b q = inr (e .0, rw (sym (eqb-true (e .1) k b)) (here e l))
+    go up false a false b q = ⊎-elim (λ y. inl (y .0, later e l _ _ (y .1))) (λ y. inr (y .0, later e l _ _ (y .1))) (up (omega arith))
 
 -- ---- the frames of a whole group lie in it
 no-frame : (n : ℕ) (r : Refusal) → Broken r ≡ Whole n → ⊥
@@ -84,23 +86,23 @@ whole-fit s n (suc m) k h e = go (whole-fit s n m (suc k)) (ltb (beginOf s k) (l
 no-refusal : (r : Refusal) → Verdicts.Refused r ≡ Verdicts.Passed → ⊥
 no-refusal r e = let z : _≡_ {A = ℕ} 0 1 = cc in omega arith
 
-all-passed : (v : ℕ → ℕ → Verdict) (l : List (ℕ × ℕ)) → judgeBy v l ≡ Verdicts.Passed → (i j : ℕ) → Among i j l → v i j ≡ Verdicts.Passed
+all-passed : (v : ℕ → ℕ → Verdict) (l : List (ℕ × ℕ)) → judgeBy v l ≡ Verdicts.Passed → (i j : ℕ) → Among l i j → v i j ≡ Verdicts.Passed
 unfolding judgeBy
-all-passed v [] e i j a = absurd (omega (arith, among-some i j [] a))
+all-passed v [] e i j a = absurd (among-none i j a)
 all-passed v (d ∷ l) e i j a = go (all-passed v l) (v (d .0) (d .1)) refl e
   where
-    go : (judgeBy v l ≡ Verdicts.Passed → (i j : ℕ) → Among i j l → v i j ≡ Verdicts.Passed) → (x : Verdict) → v (d .0) (d .1) ≡ x → onVerdict x (judgeBy v l) ≡ Verdicts.Passed → v i j ≡ Verdicts.Passed
-    go up Verdicts.Passed f g = ⊎-elim (λ (z : (i ≡ d .0) × (j ≡ d .1)). ap₂ v (z .0) (z .1) ∙ f) (λ (z : Among i j l). up g i j z) (among-cons i j d l a)
+    go : (judgeBy v l ≡ Verdicts.Passed → (i j : ℕ) → Among l i j → v i j ≡ Verdicts.Passed) → (x : Verdict) → v (d .0) (d .1) ≡ x → onVerdict x (judgeBy v l) ≡ Verdicts.Passed → v i j ≡ Verdicts.Passed
+    go up Verdicts.Passed f g = ⊎-elim (λ (z : (i ≡ d .0) × (j ≡ d .1)). ap₂ v (z .0) (z .1) ∙ f) (λ (z : Among l i j). up g i j z) (among-cons d l i j a)
     go up (Verdicts.Refused r) f g = absurd (no-refusal r g)
 
 not-refused : (i j : ℕ) (a : Answer) (r : Refusal) → answered i j a ≡ Verdicts.Passed → a ≡ Answers.Refused r → ⊥
 not-refused i j a r e f = no-refusal (atIndex i j r) (sym (ap (answered i j) f) ∙ e)
 
 -- ---- the counts
-grown-is : (w : Strategies) (s : List ℕ) (l : List (ℕ × ℕ)) (g : CorrectionStats) → grown w s l g ≡ plus g (growths w s l)
-unfolding grown growths
+grown-is : (w : Strategies) (s : List ℕ) (l : List (ℕ × ℕ)) (g : CorrectionStats) → grown w s l g ≡ plus g (pairGrowths w s l)
+unfolding grown pairGrowths
 grown-is w s [] g = sym (plus-zero g)
-grown-is w s (e ∷ l) g = grown-is w s l (plus g (pairAt w s (e .0) (e .1) .after .stats)) ∙ plus-assoc g _ (growths w s l)
+grown-is w s (e ∷ l) g = grown-is w s l (plus g (pairAt w s (e .0) (e .1) .after .stats)) ∙ plus-assoc g _ (pairGrowths w s l)
 
 -- ---- an accepted group is what the promise says
 record Stages (w : Strategies) (s : List ℕ) (g : CorrectionStats) (n p o : ℕ) (u : List ℕ) (h : CorrectionStats) : Type 0 where
@@ -160,30 +162,30 @@ module _ (w : Strategies) (s : List ℕ) (g : CorrectionStats) (n p o : ℕ) (u 
         counts = t .counts ∙ grown-is w s l g;
       }
     where
-      outside : (x : ℕ) → ((i j : ℕ) → Among i j (pairsOf s n) → Outside s i x × Outside s j x) → (k : ℕ) → 0 < times (pairsOf s n) k → (x < startOf s k) ⊎ (endOf s k ≤ x)
-      outside x a k q = ⊎-elim (λ (y : (j : ℕ) × Among k j (pairsOf s n)). a k (y .0) (y .1) .0) (λ (y : (j : ℕ) × Among j k (pairsOf s n)). a (y .0) k (y .1) .1) (times-among (pairsOf s n) k q)
+      outside : (x : ℕ) → ((i j : ℕ) → Among (pairsOf s n) i j → Elsewhere s i x × Elsewhere s j x) → (k : ℕ) → 0 < times (pairsOf s n) k → (x < startOf s k) ⊎ (endOf s k ≤ x)
+      outside x a k q = ⊎-elim (λ (y : (j : ℕ) × Among (pairsOf s n) k j). a k (y .0) (y .1) .0) (λ (y : (j : ℕ) × Among (pairsOf s n) j k). a (y .0) k (y .1) .1) (times-among (pairsOf s n) k q)
 
 -- ---- no second outcome fits
 -- where byte x lies: in a record of a pair, or in none
 data Spot (s : List ℕ) (l : List (ℕ × ℕ)) (x : ℕ) : Type 0 where
-  in-first : (i j : ℕ) → Among i j l → startOf s i ≤ x → x < endOf s i → Spot s l x
-  in-second : (i j : ℕ) → Among i j l → startOf s j ≤ x → x < endOf s j → Spot s l x
-  in-none : ((i j : ℕ) → Among i j l → Outside s i x × Outside s j x) → Spot s l x
+  in-first : (i j : ℕ) → Among l i j → startOf s i ≤ x → x < endOf s i → Spot s l x
+  in-second : (i j : ℕ) → Among l i j → startOf s j ≤ x → x < endOf s j → Spot s l x
+  in-none : ((i j : ℕ) → Among l i j → Elsewhere s i x × Elsewhere s j x) → Spot s l x
 
-side : (s : List ℕ) (i x : ℕ) → ((startOf s i ≤ x) × (x < endOf s i)) ⊎ Outside s i x
+side : (s : List ℕ) (i x : ℕ) → ((startOf s i ≤ x) × (x < endOf s i)) ⊎ Elsewhere s i x
 side s i x = ⊎-elim (λ (a : x < startOf s i). inr (inl a)) (λ (b : startOf s i ≤ x). ⊎-elim (λ (c : x < endOf s i). inl (b, c)) (λ (d : endOf s i ≤ x). inr (inr d)) (lt-or-le x (endOf s i))) (lt-or-le x (startOf s i))
 
 locate : (s : List ℕ) (l : List (ℕ × ℕ)) (x : ℕ) → Spot s l x
-locate s [] x = in-none (λ i j a. absurd (omega (arith, among-some i j [] a)))
+locate s [] x = in-none (λ i j a. absurd (among-none i j a))
 locate s (e ∷ l) x =
-    ⊎-elim (λ (a : (startOf s (e .0) ≤ x) × (x < endOf s (e .0))). in-first (e .0) (e .1) here (a .0) (a .1))
-    (λ (a : Outside s (e .0) x). ⊎-elim (λ (b : (startOf s (e .1) ≤ x) × (x < endOf s (e .1))). in-second (e .0) (e .1) here (b .0) (b .1))
-    (λ (b : Outside s (e .1) x). on a b (locate s l x)) (side s (e .1) x)) (side s (e .0) x)
+    ⊎-elim (λ (a : (startOf s (e .0) ≤ x) × (x < endOf s (e .0))). in-first (e .0) (e .1) (here e l) (a .0) (a .1))
+    (λ (a : Elsewhere s (e .0) x). ⊎-elim (λ (b : (startOf s (e .1) ≤ x) × (x < endOf s (e .1))). in-second (e .0) (e .1) (here e l) (b .0) (b .1))
+    (λ (b : Elsewhere s (e .1) x). on a b (locate s l x)) (side s (e .1) x)) (side s (e .0) x)
   where
-    on : Outside s (e .0) x → Outside s (e .1) x → Spot s l x → Spot s (e ∷ l) x
-    on a b (in-first i j z p q) = in-first i j (later z) p q
-    on a b (in-second i j z p q) = in-second i j (later z) p q
-    on a b (in-none f) = in-none (λ i j z. ⊎-elim (λ (y : (i ≡ e .0) × (j ≡ e .1)). (rw (y .0) a, rw (y .1) b)) (λ (y : Among i j l). f i j y) (among-cons i j e l z))
+    on : Elsewhere s (e .0) x → Elsewhere s (e .1) x → Spot s l x → Spot s (e ∷ l) x
+    on a b (in-first i j z p q) = in-first i j (later e l i j z) p q
+    on a b (in-second i j z p q) = in-second i j (later e l i j z) p q
+    on a b (in-none f) = in-none (λ i j z. ⊎-elim (λ (y : (i ≡ e .0) × (j ≡ e .1)). (rw (y .0) a, rw (y .1) b)) (λ (y : Among l i j). f i j y) (among-cons e l i j z))
 
 byte-in : (u : List ℕ) (a e x : ℕ) → a ≤ x → x < e → getD u x 0 ≡ getD (part u a e) (x - a) 0
 byte-in u a e x h k =
@@ -206,7 +208,7 @@ one-outcome w s g n p o n′ p′ o′ u u′ h h′ a b =
       pairs = a .pairs ∙ ap (λ (q : ℕ). length (pairsOf s q)) z ∙ sym (b .pairs);
       overlapping = a .overlapping ∙ ap (λ (q : ℕ). overlapsIn w s (pairsOf s q)) z ∙ sym (b .overlapping);
       bytes = ext-getD 0 u u′ (a .size ∙ sym (b .size)) (λ x l. by z x (locate s (pairsOf s n) x));
-      counts = a .counts ∙ ap (λ (q : ℕ). plus g (growths w s (pairsOf s q))) z ∙ sym (b .counts);
+      counts = a .counts ∙ ap (λ (q : ℕ). plus g (pairGrowths w s (pairsOf s q))) z ∙ sym (b .counts);
     }
   where
     by : n ≡ n′ → (x : ℕ) → Spot s (pairsOf s n) x → getD u x 0 ≡ getD u′ x 0
@@ -217,7 +219,7 @@ one-outcome w s g n p o n′ p′ o′ u u′ h h′ a b =
         let v = among-mates s n i j t in
         byte-in u (startOf s j) (endOf s j) x q r ∙ ap (λ (c : List ℕ). getD c (x - startOf s j) 0) (a .second i j v ∙ sym (b .second i j (rw z at v))) ∙ sym (byte-in u′ (startOf s j) (endOf s j) x q r)
     by z x (in-none f) =
-        let out : (q : ℕ) → n ≡ q → (i j : ℕ) → Mates s q i j → Outside s i x × Outside s j x = λ q y i j v. f i j (mates-among s n i j (rw (sym y) at v)) in
+        let out : (q : ℕ) → n ≡ q → (i j : ℕ) → Mates s q i j → Elsewhere s i x × Elsewhere s j x = λ q y i j v. f i j (mates-among s n i j (rw (sym y) at v)) in
         a .others x (out n refl) ∙ sym (b .others x (out n′ z))
 
 -- ---- a refusal leaves every byte and count as it came

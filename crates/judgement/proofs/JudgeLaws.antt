@@ -5,7 +5,7 @@ use mathlib.Core.List.{List}
 use mathlib.Core.Bool.{Bool, true, false, cond, _||_, not}
 use lib.IntN.{ℤ}
 use Rattle.fields.specs.declared.Layout.{Layout}
-use Rattle.fields.specs.declared.RefPos.{RefPos}
+use Rattle.cigar.specs.declared.Extent.{Extent}
 use Rattle.fields.specs.declared.Placed.{Placed}
 use Rattle.fields.specs.declared.Placed.the-variants.{At, Unplaced}
 use Rattle.fields.specs.Flag.{hasBit}
@@ -25,7 +25,7 @@ use Rattle.judgement.specs.Judgement.{onUses, onSpan, onPlaced, spanIn, 
 pub uses-refused : (o : Operations) (r : Refusal) (f g : ℕ → Span) → o ≡ Ops.Refused r → onUses o f ≡ onUses o g
 uses-refused o r f g e = rw e
 
-pub span-refused : (p : Span) (r : Refusal) (f g : RefPos → Judged) → p ≡ Spans.Refused r → onSpan p f ≡ onSpan p g
+pub span-refused : (p : Span) (r : Refusal) (f g : Extent → Judged) → p ≡ Spans.Refused r → onSpan p f ≡ onSpan p g
 span-refused p r f g e = rw e
 
 -- what a span is, by the operations' answer
@@ -56,11 +56,11 @@ module _ (y z : Layout) (a b : List ℕ) (i j : ℕ) where
         pub first-span : (x : Span) (r : Refusal) → x ≡ spanIn y a p i → x ≡ Spans.Refused r → onSpan x (λ s. Judge.Apart) ≡ mappedOf y z a b i j
         first-span x r e f = span-refused x r (λ s. Judge.Apart) _ f ∙ (ap (λ (u : Span). onSpan u (λ s. onSpan (spanIn z b q j) (λ t. Judge.Both s t))) e ∙ whole)
 
-        pub second-span : (s : RefPos) (x u : Span) (r : Refusal) → x ≡ spanIn y a p i → x ≡ Spans.Starts s → u ≡ spanIn z b q j → u ≡ Spans.Refused r
+        pub second-span : (s : Extent) (x u : Span) (r : Refusal) → x ≡ spanIn y a p i → x ≡ Spans.Covers s → u ≡ spanIn z b q j → u ≡ Spans.Refused r
             → onSpan u (λ t. Judge.Apart) ≡ mappedOf y z a b i j
         second-span s x u r e f g h = span-refused u r (λ t. Judge.Apart) (λ t. Judge.Both s t) h ∙ (rw (sym e ∙ f, sym g) at whole)
 
-        pub both-spans : (s t : RefPos) (x u : Span) → x ≡ spanIn y a p i → x ≡ Spans.Starts s → u ≡ spanIn z b q j → u ≡ Spans.Starts t → Judge.Both s t ≡ mappedOf y z a b i j
+        pub both-spans : (s t : Extent) (x u : Span) → x ≡ spanIn y a p i → x ≡ Spans.Covers s → u ≡ spanIn z b q j → u ≡ Spans.Covers t → Judge.Both s t ≡ mappedOf y z a b i j
         both-spans s t x u e f g h = (rw (sym e ∙ f, sym g ∙ h) at whole)
 
 module _ (y z : Layout) (a b : List ℕ) (i j : ℕ) where

@@ -1,24 +1,19 @@
--- Two sound records judged, in the document's order: steps 4 to 7; and what treating them gives.
+-- Two sound records judged, in the document's order: steps 4 to 7.
 use Prim.Native.Nat.{ℕ}
-use mathlib.Core.Path.{_≡_}
 use mathlib.Core.List.{List}
 use mathlib.Core.Bool.{cond, _||_}
-use lib.ListN.{length}
 use Rattle.fields.specs.declared.Layout.{Layout}
-use Rattle.fields.specs.declared.RefPos.{RefPos}
 use Rattle.fields.specs.declared.Placed.{Placed}
 use Rattle.fields.specs.declared.Placed.the-variants.{At, Unplaced}
 use Rattle.fields.specs.Flag.{hasBit}
 use Rattle.fields.specs.Layout.{header}
 use Rattle.fields.specs.Placed.{placedOf, sameId}
-use Rattle.fields.specs.Check.{Sound}
 use Rattle.cigar.specs.declared.Operations.{Operations}
 use Rattle.cigar.specs.declared.Operations.the-variants as Ops
+use Rattle.cigar.specs.declared.Extent.{Extent}
 use Rattle.cigar.specs.declared.Span.{Span}
 use Rattle.cigar.specs.declared.Span.the-variants as Spans
 use Rattle.cigar.specs.Judge.{operationsOf, spanOf}
-use Rattle.positions.specs.Step.{State, Job}
-use Rattle.merge.specs.Shared.{shared, merged}
 use Rattle.judgement.specs.declared.Judged.{Judged}
 use Rattle.judgement.specs.declared.Judged.the-variants as Judge
 
@@ -27,8 +22,8 @@ abbrev pub onUses : Operations → (ℕ → Span) → Span
 onUses (Ops.Uses n) rest = rest n
 onUses (Ops.Refused r) rest = Spans.Refused r
 
-abbrev pub onSpan : Span → (RefPos → Judged) → Judged
-onSpan (Spans.Starts p) rest = rest p
+abbrev pub onSpan : Span → (Extent → Judged) → Judged
+onSpan (Spans.Covers e) rest = rest e
 onSpan (Spans.Refused r) rest = Judge.Refused r
 
 abbrev pub onPlaced : Placed → (ℕ → Judged) → Judged
@@ -50,16 +45,3 @@ mappedOf y z a b i j =
 -- step 4: either unmapped
 unfoldable pub judgedOf : Layout → Layout → List ℕ → List ℕ → ℕ → ℕ → Judged
 judgedOf y z a b i j = cond (hasBit (header a .flags) 4 || hasBit (header b .flags) 4) Judge.Apart (mappedOf y z a b i j)
-
--- two sound records that were judged to be on one reference
-pub record Ready (y z : Layout) (p q : RefPos) (a b : List ℕ) : Type 0 where
-  pub first : Sound a y
-  pub second : Sound b z
-  pub place₁ : ℕ
-  pub place₂ : ℕ
-  pub both : judgedOf y z a b place₁ place₂ ≡ Judge.Both p q
-
--- what treating them gives
-pub record TreatedTo (w : Job) (p q : RefPos) (s u : State) (n : ℕ) : Type 0 where
-  pub after : u ≡ merged w p q s
-  pub counted : n ≡ length (shared (w .first) (w .second) p q (s .first) (s .second))

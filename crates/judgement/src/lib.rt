@@ -1,5 +1,6 @@
 // Two sound records judged by the order of judgement, steps 4 to 7, and treated where they share
 // positions.
+use cigar::Extent;
 use cigar::Operations;
 use cigar::Span;
 use fields::Layout;
@@ -11,30 +12,34 @@ use stats::CorrectionStats;
 use strategy::Strategies;
 ghost use mathlib.Core.Path.{_≡_};
 ghost use Prim.Native.Nat.{ℕ};
-ghost use Rattle.fields.specs.Check.{Sound};
-ghost use Rattle.stats.specs.Counts.{Room};
+ghost use Rattle.fields.specs.Sound.{Sound};
+ghost use Rattle.stats.specs.Room.{Room};
 ghost use Rattle.positions.specs.Step.{state, job};
-ghost use Rattle.judgement.specs.Judgement.{onUses, onSpan, spanIn, mappedOf, judgedOf, Ready, TreatedTo};
+ghost use Rattle.judgement.specs.Judgement.{onUses, onSpan, spanIn, mappedOf, judgedOf};
+ghost use Rattle.judgement.specs.Ready.{Ready, TreatedTo};
 
 // Two sound records judged: refused, apart for what their headers say, or both placed on one
-// reference, each from its first position on.
+// reference, each with the positions that it covers.
 pub enum Judged {
     Refused(Refusal),
     Apart,
-    Both(RefPos, RefPos),
+    Both(Extent, Extent),
 }
 
 // The refusal of operations, as the answer of a span.
 fn unspanned(o: Operations) -> Span
-    ensures { λ r. ⌜ r ≡ onUses o (λ (n : ℕ). Span.Starts (record { 0 = 0 })) ⌝ }
+    ensures { λ r. ⌜ r ≡ onUses o (λ (n : ℕ). Span.Covers (record { start = record { 0 = 0 }; end = record { 0 = 0 } })) ⌝ }
 {
     match o {
-        Operations::Uses(_) => Span::Starts(RefPos(0)),
+        Operations::Uses(_) => Span::Covers(Extent {
+            start: RefPos(0),
+            end: RefPos(0),
+        }),
         Operations::Refused(r) => Span::Refused(r),
     }
 }
 
-// Where the alignment of a sound record starts: its operations judged, then its end.
+// What the alignment of a sound record covers: its operations judged, then its end.
 fn span_of(s: &[u8], y: Layout, pos: u32, place: u16) -> Span
     requires { ⌜ Sound (now s) y ⌝ }
     ensures { λ r. ⌜ r ≡ spanIn y (now (s .entry)) pos place ⌝ }
@@ -48,10 +53,10 @@ fn span_of(s: &[u8], y: Layout, pos: u32, place: u16) -> Span
 
 // The refusal of a span, as what is judged of a pair.
 fn unplaced(p: Span) -> Judged
-    ensures { λ r. ⌜ r ≡ onSpan p (λ (s : RefPos). Judged.Apart) ⌝ }
+    ensures { λ r. ⌜ r ≡ onSpan p (λ (s : Extent). Judged.Apart) ⌝ }
 {
     match p {
-        Span::Starts(_) => Judged::Apart,
+        Span::Covers(_) => Judged::Apart,
         Span::Refused(r) => Judged::Refused(r),
     }
 }
@@ -81,14 +86,14 @@ fn judge_mapped(
         return Judged::Apart;
     };
     let span1 = span_of(first, y, pos1, place1);
-    let Span::Starts(start1) = span1 else {
+    let Span::Covers(extent1) = span1 else {
         return unplaced(span1);
     };
     let span2 = span_of(second, z, pos2, place2);
-    let Span::Starts(start2) = span2 else {
+    let Span::Covers(extent2) = span2 else {
         return unplaced(span2);
     };
-    Judged::Both(start1, start2)
+    Judged::Both(extent1, extent2)
 }
 
 // Two sound records judged by steps 4 to 7, from their bytes alone; a refusal names the place given.
@@ -107,31 +112,42 @@ pub fn judge(first: &[u8], second: &[u8], y: Layout, z: Layout, place1: u16, pla
     judge_mapped(first, second, y, z, place1, place2)
 }
 
-// The shared positions of two records that were judged to be on one reference, treated.
+// No shared position.
+fn none_met(g: CorrectionStats) -> Met
+    ensures { λ r. ⌜ (r .shared ≡ 0) × (r .stats ≡ g) ⌝ }
+{
+    Met {
+        shared: 0,
+        stats: g,
+    }
+}
+
+// The shared positions of two records that were judged to be on one reference, treated. There are
+// none where a record has no base, or where one ends before the other begins.
 pub fn treat(
     w: Strategies,
     first: &mut [u8],
     second: &mut [u8],
     y: Layout,
     z: Layout,
-    p: RefPos,
-    q: RefPos,
+    p: Extent,
+    q: Extent,
     g: CorrectionStats,
 ) -> Met
     requires { ⌜ Ready y z p q (now first) (now second) × Room g 131072 ⌝ }
-    ensures { λ r. ⌜ TreatedTo (job w y z) p q (state (now (first .entry)) (now (second .entry)) g) (state (now (first .exit)) (now (second .exit)) (r .stats)) (r .shared) ⌝ }
+    ensures { λ r. ⌜ TreatedTo (job w y z) (p .start) (q .start) (state (now (first .entry)) (now (second .entry)) g) (state (now (first .exit)) (now (second .exit)) (r .stats)) (r .shared) ⌝ }
 {
     if y.count == 0 {
-        return Met {
-            shared: 0,
-            stats: g,
-        };
+        return none_met(g);
     }
     if z.count == 0 {
-        return Met {
-            shared: 0,
-            stats: g,
-        };
+        return none_met(g);
     }
-    merge::merge(w, first, second, y, z, p, q, g)
+    if p.end.0 <= q.start.0 {
+        return none_met(g);
+    }
+    if q.end.0 <= p.start.0 {
+        return none_met(g);
+    }
+    merge::merge(w, first, second, y, z, p.start, q.start, g)
 }

@@ -11,7 +11,9 @@ use lib.ListN.{length, getD, take, drop}
 use lib.Seq.{ext-getD, getD-take, getD-drop}
 use Rattle.fields.proofs.Arith.{lt-or-le}
 use Rattle.mates.specs.Register.{placeAt, nameAt, sameBytes, fits, holder, mateOf, matesOf, mateCons, pairsFrom, pairsOf}
-use Rattle.mates.specs.Promise.{Registered, Mates, Among, here, later}
+use Rattle.fields.specs.Among.{Among}
+use Rattle.fields.proofs.AmongLaws.{here, later, among-cons, among-none}
+use Rattle.mates.specs.Promise.{Registered, Mates}
 use Rattle.mates.proofs.NameLaws.{and-true, same-true, same-refl}
 use Rattle.mates.proofs.OnceLaws.{Holds, holder-holds, Mated, mated}
 
@@ -82,30 +84,22 @@ pub record Made (f : ℕ → ℕ) (i j a m : ℕ) : Type 0 where
   pub high : i < a + m
   pub made : f i ≡ suc j
 
-pub among-cons : (i j : ℕ) (e : ℕ × ℕ) (l : List (ℕ × ℕ)) → Among i j (e ∷ l) → ((i ≡ e .0) × (j ≡ e .1)) ⊎ Among i j l
-among-cons i j _ _ here = inl (refl, refl)
-among-cons i j _ _ (later a) = inr a
-
-pub among-some : (i j : ℕ) (l : List (ℕ × ℕ)) → Among i j l → 0 < length l
-among-some i j _ (here {l = l}) = omega arith
-among-some i j _ (later {l = l} a) = omega arith
-
-pub among-made : (f : ℕ → ℕ) (m a i j : ℕ) → Among i j (pairsFrom f a m) → Made f i j a m
+pub among-made : (f : ℕ → ℕ) (m a i j : ℕ) → Among (pairsFrom f a m) i j → Made f i j a m
 unfolding pairsFrom
-among-made f zero a i j x = absurd (omega (arith, among-some i j [] x))
+among-made f zero a i j x = absurd (among-none i j x)
 among-made f (suc m) a i j x = go (f a) refl (among-made f m (suc a) i j) x
   where
     up : Made f i j (suc a) m → Made f i j a (suc m)
     up y = record { low = omega (arith, y .low); high = omega (arith, y .high); made = y .made }
 
-    go : (v : ℕ) → f a ≡ v → (Among i j (pairsFrom f (suc a) m) → Made f i j (suc a) m) → Among i j (mateCons a v (pairsFrom f (suc a) m)) → Made f i j a (suc m)
+    go : (v : ℕ) → f a ≡ v → (Among (pairsFrom f (suc a) m) i j → Made f i j (suc a) m) → Among (mateCons a v (pairsFrom f (suc a) m)) i j → Made f i j a (suc m)
     go zero e r y = up (r y)
     go (suc v) e r y =
         ⊎-elim (λ (z : (i ≡ a) × (j ≡ v)). record { low = omega (arith, z .0); high = omega (arith, z .0); made = ap f (z .0) ∙ e ∙ ap suc (sym (z .1)) })
-        (λ (z : Among i j (pairsFrom f (suc a) m)). up (r z))
-        (among-cons i j (a, v) (pairsFrom f (suc a) m) y)
+        (λ (z : Among (pairsFrom f (suc a) m) i j). up (r z))
+        (among-cons (a, v) (pairsFrom f (suc a) m) i j y)
 
-pub made-among : (f : ℕ → ℕ) (m a i j : ℕ) → Made f i j a m → Among i j (pairsFrom f a m)
+pub made-among : (f : ℕ → ℕ) (m a i j : ℕ) → Made f i j a m → Among (pairsFrom f a m) i j
 unfolding pairsFrom
 made-among f zero a i j x = absurd (omega (arith, x .low, x .high))
 made-among f (suc m) a i j x =
@@ -113,15 +107,15 @@ made-among f (suc m) a i j x =
     (λ (l : a < i). skip (f a) (made-among f m (suc a) i j (record { low = omega arith; high = omega (arith, x .high); made = x .made })))
     (λ (g : i ≤ a). let z : i ≡ a = omega (arith, x .low) in
     let e : f a ≡ suc j = ap f (sym z) ∙ x .made in
-    rw (e, z) here)
+    rw (e, z) (here (a, j) (pairsFrom f (suc a) m)))
     (lt-or-le a i)
   where
-    skip : (v : ℕ) → Among i j (pairsFrom f (suc a) m) → Among i j (mateCons a v (pairsFrom f (suc a) m))
+    skip : (v : ℕ) → Among (pairsFrom f (suc a) m) i j → Among (mateCons a v (pairsFrom f (suc a) m)) i j
     skip zero y = y
-    skip (suc v) y = later y
+    skip (suc v) y = later (a, v) (pairsFrom f (suc a) m) i j y
 
-pub among-mates : (s : List ℕ) (n i j : ℕ) → Among i j (pairsOf s n) → Mates s n i j
+pub among-mates : (s : List ℕ) (n i j : ℕ) → Among (pairsOf s n) i j → Mates s n i j
 among-mates s n i j x = let y = among-made (matesOf s n) n 0 i j x in mate-mates s n i j (omega (arith, y .high)) (y .made)
 
-pub mates-among : (s : List ℕ) (n i j : ℕ) → Mates s n i j → Among i j (pairsOf s n)
+pub mates-among : (s : List ℕ) (n i j : ℕ) → Mates s n i j → Among (pairsOf s n) i j
 mates-among s n i j m = made-among (matesOf s n) n 0 i j (record { low = omega arith; high = omega (arith, m .first .below); made = mates-mate s n i j m })

@@ -1,5 +1,5 @@
 -- What a reader is promised of the pairs: they are the mates, and each record is in at most one.
-use Prim.Native.Nat.{ℕ, suc, _+_, _<_, _≤_}
+use Prim.Native.Nat.{ℕ, _+_, _<_, _≤_}
 use mathlib.Core.Bool.{Bool, true, false}
 use mathlib.Core.List.{List, [], _∷_}
 use mathlib.Core.Path.{_≡_}
@@ -17,11 +17,6 @@ pub record Mates (s : List ℕ) (n i j : ℕ) : Type 0 where
   pub first : Registered s n 1 i
   pub second : Registered s n 2 j
   pub name : nameAt s j ≡ nameAt s i
-
--- (i, j) is in the list
-pub data Among : ℕ → ℕ → List (ℕ × ℕ) → Type 0 where
-  here : {i j : ℕ} {l : List (ℕ × ℕ)} → Among i j ((i, j) ∷ l)
-  later : {i j : ℕ} {e : ℕ × ℕ} {l : List (ℕ × ℕ)} → Among i j l → Among i j (e ∷ l)
 
 abbrev pub one : Bool → ℕ
 one true = 1

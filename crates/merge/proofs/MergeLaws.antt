@@ -9,20 +9,21 @@ use lib.ListN.{length, take, drop, length-append}
 use lib.Seq.{length-take-le}
 use Rattle.fields.specs.declared.Layout.{Layout}
 use Rattle.fields.specs.declared.RefPos.{RefPos}
-use Rattle.fields.specs.Check.{Lies}
+use Rattle.fields.specs.Sound.{Lies}
 use Rattle.fields.proofs.Arith.{lt-or-le}
 use Rattle.stats.specs.declared.CorrectionStats.{CorrectionStats}
-use Rattle.stats.specs.Counts.{Room}
+use Rattle.stats.specs.Room.{Room}
 use Rattle.stats.proofs.CountLaws.{room-less}
 use Rattle.strategy.specs.declared.Strategies.{Strategies}
 use Rattle.cigar.specs.declared.Cursor.{Cursor}
 use Rattle.cigar.specs.Operation.{readSum, refSum, opsOf}
-use Rattle.cigar.specs.Place.{runAt, offAt, baseOn}
+use Rattle.cigar.specs.Found.{runAt, offAt, baseOn}
 use Rattle.cigar.specs.Passing.{cursor, restOps, curOff, readEnd, refEnd, advanced, Kept, Settled, Stands}
 use Rattle.cigar.proofs.PlaceLaws.{run-zero}
 use Rattle.cigar.proofs.SitsLaws.{base-off}
 use Rattle.cigar.proofs.CursorLaws.{cur-below, cur-in, cur-done, advance-same}
-use Rattle.positions.specs.Step.{job, State, state, steps, step, row}
+use Rattle.positions.specs.Step.{job, State, state}
+use Rattle.positions.specs.Treating.{steps, step, row}
 use Rattle.positions.proofs.StepLaws.{steps-append, steps-front, steps-length, steps-room, row-length}
 use Rattle.merge.specs.Shared.{opsIn, baseIn, pairs, shared, merged, Walked}
 use Rattle.merge.proofs.PairLaws.{skip-to, none-left, take-row}

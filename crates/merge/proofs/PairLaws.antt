@@ -7,7 +7,9 @@ use mathlib.Core.Logic.{_⊎_, inl, inr, ⊎-elim}
 use native.Mathlib.Omega.{arith}
 use native.Mathlib.Nat.{zero-add, add-zero, suc-add}
 use Rattle.fields.proofs.Arith.{lt-or-le}
-use Rattle.positions.specs.Step.{row, At}
+use Rattle.fields.specs.Among.{Among}
+
+use Rattle.positions.specs.Treating.{row}
 use Rattle.positions.proofs.PointLaws.{Rises}
 use Rattle.merge.specs.Shared.{pairCons, pairs}
 
@@ -57,11 +59,14 @@ skip-to f g e p p′ h k =
     ap (λ (n : ℕ). pairs f g p n) x ∙ (pairs-skip f g p (p′ - p) (e - p′) (λ t a b. k t a (omega arith)) ∙ ap (λ (q : ℕ). pairs f g q (e - p′)) x′))
     (lt-or-le e p′)
 
+-- none is among the n positions from p on
+pub none-in : (f g : ℕ → Option ℕ) (p n : ℕ) → ((t : ℕ) → p ≤ t → t < p + n → (f t ≡ none) ⊎ (g t ≡ none)) → pairs f g p n ≡ []
+unfolding pairs
+none-in f g p n h = ap (λ (m : ℕ). pairs f g p m) (sym (add-zero n)) ∙ pairs-skip f g p n 0 h
+
 -- none is left
 pub none-left : (f g : ℕ → Option ℕ) (p n : ℕ) → ((t : ℕ) → p ≤ t → (f t ≡ none) ⊎ (g t ≡ none)) → pairs f g p n ≡ []
-unfolding pairs
-none-left f g p n h =
-    ap (λ (m : ℕ). pairs f g p m) (sym (add-zero n)) ∙ pairs-skip f g p n 0 (λ t a b. h t a)
+none-left f g p n h = none-in f g p n (λ t a b. h t a)
 
 -- k positions of a row
 pub take-row : (f g : ℕ → Option ℕ) (e p i j k : ℕ) → p + k ≤ e → ((t : ℕ) → t < k → f (p + t) ≡ some (i + t)) → ((t : ℕ) → t < k → g (p + t) ≡ some (j + t))
@@ -78,27 +83,27 @@ pub record Meets (f g : ℕ → Option ℕ) (p n i j : ℕ) : Type 0 where
   pub first : f u ≡ some i
   pub second : g u ≡ some j
 
-cons-at : (x y : Option ℕ) (l : List (ℕ × ℕ)) (i j : ℕ) → At (pairCons x y l) i j → ((x ≡ some i) × (y ≡ some j)) ⊎ At l i j
-unfolding At
+cons-at : (x y : Option ℕ) (l : List (ℕ × ℕ)) (i j : ℕ) → Among (pairCons x y l) i j → ((x ≡ some i) × (y ≡ some j)) ⊎ Among l i j
+unfolding Among
 cons-at none y l i j h = inr h
 cons-at (some a) none l i j h = inr h
 cons-at (some a) (some b) l i j h = ⊎-elim (λ q. inl (ap some (q .0), ap some (q .1))) (λ q. inr q) h
 
-at-cons : (x y : Option ℕ) (l : List (ℕ × ℕ)) (i j : ℕ) → ((x ≡ some i) × (y ≡ some j)) ⊎ At l i j → At (pairCons x y l) i j
-unfolding At
+at-cons : (x y : Option ℕ) (l : List (ℕ × ℕ)) (i j : ℕ) → ((x ≡ some i) × (y ≡ some j)) ⊎ Among l i j → Among (pairCons x y l) i j
+unfolding Among
 at-cons none y l i j h = ⊎-elim (λ q. let z : _≡_ {A = ℕ} 0 1 = cc (q .0) in absurd (omega arith)) (λ q. q) h
 at-cons (some a) none l i j h = ⊎-elim (λ q. let z : _≡_ {A = ℕ} 0 1 = cc (q .1) in absurd (omega arith)) (λ q. q) h
 at-cons (some a) (some b) l i j h = ⊎-elim (λ q. inl ((cc (q .0)), (cc (q .1)))) (λ q. inr q) h
 
-pub pairs-meet : (f g : ℕ → Option ℕ) (p n i j : ℕ) → At (pairs f g p n) i j → Meets f g p n i j
-unfolding pairs At
+pub pairs-meet : (f g : ℕ → Option ℕ) (p n i j : ℕ) → Among (pairs f g p n) i j → Meets f g p n i j
+unfolding pairs Among
 pairs-meet f g p zero i j h = absurd h
 pairs-meet f g p (suc n) i j h =
     ⊎-elim (λ q. record { u = p; low = omega arith; high = omega arith; first = q .0; second = q .1 })
     (λ q. let m = pairs-meet f g (suc p) n i j q in record { u = m .u; low = omega (arith, m .low); high = omega (arith, m .high); first = m .first; second = m .second })
     (cons-at (f p) (g p) (pairs f g (suc p) n) i j h)
 
-pub meet-pairs : (f g : ℕ → Option ℕ) (p n i j : ℕ) → Meets f g p n i j → At (pairs f g p n) i j
+pub meet-pairs : (f g : ℕ → Option ℕ) (p n i j : ℕ) → Meets f g p n i j → Among (pairs f g p n) i j
 unfolding pairs
 meet-pairs f g p zero i j m = absurd (omega (arith, m .low, m .high))
 meet-pairs f g p (suc n) i j m =

@@ -9,13 +9,16 @@ use lib.ListN.{length, getD}
 use Rattle.fields.specs.declared.Layout.{Layout}
 use Rattle.fields.specs.declared.RefPos.{RefPos}
 use Rattle.fields.specs.declared.ReadOffset.{ReadOffset}
-use Rattle.fields.specs.Check.{Lies}
+use Rattle.fields.specs.Sound.{Lies}
 use Rattle.strategy.specs.declared.Strategies.{Strategies}
 use Rattle.bases.proofs.BaseLaws.{put-outside}
 use Rattle.cigar.specs.Operation.{refSum}
-use Rattle.cigar.specs.Place.{Sits, offAt, baseOn}
+use Rattle.cigar.specs.Place.{Sits}
+use Rattle.cigar.specs.Found.{offAt, baseOn}
 use Rattle.cigar.proofs.SitsLaws.{onRef, inRead, sits-found, sits-off, found-sits, bases-of, off-mono, off-within}
-use Rattle.positions.specs.Step.{job, State, step, steps, At, Rising}
+use Rattle.fields.specs.Among.{Among}
+use Rattle.positions.specs.Step.{job, State, Rising}
+use Rattle.positions.specs.Treating.{step, steps}
 use Rattle.positions.proofs.StepLaws.{steps-length}
 use Rattle.positions.proofs.PointLaws.{Rises, Both, kept₁, kept₂, hit, counted, both-step, rises-rising}
 use Rattle.merge.specs.Shared.{opsIn, baseIn, pairs, shared, merged}
@@ -59,13 +62,13 @@ module _ (v : Strategies) (y z : Layout) (r t : RefPos) (s : State) where
   unfolding shared
   shared-names = record { all = all; only = only; once = rises-rising (y .count) (z .count) 0 0 _ shared-rises }
     where
-      all : (i j : ReadOffset) → Share y z r t s i j → At (pairs (baseIn y (s .first) r) (baseIn z (s .second) t) (r .0) (refSum (opsIn y (s .first)))) (i .0) (j .0)
+      all : (i j : ReadOffset) → Share y z r t s i j → Among (pairs (baseIn y (s .first) r) (baseIn z (s .second) t) (r .0) (refSum (opsIn y (s .first)))) (i .0) (j .0)
       all i j h =
           let w = off-within (opsIn y (s .first)) (r .0) (i .0) (h .at .0) (sits-off (h .first)) in
           meet-pairs (baseIn y (s .first) r) (baseIn z (s .second) t) (r .0) (refSum (opsIn y (s .first))) (i .0) (j .0)
           (record { u = h .at .0; low = w .1; high = w .2; first = sits-found (h .first); second = sits-found (h .second) })
 
-      only : (i j : ReadOffset) → At (pairs (baseIn y (s .first) r) (baseIn z (s .second) t) (r .0) (refSum (opsIn y (s .first)))) (i .0) (j .0) → Share y z r t s i j
+      only : (i j : ReadOffset) → Among (pairs (baseIn y (s .first) r) (baseIn z (s .second) t) (r .0) (refSum (opsIn y (s .first)))) (i .0) (j .0) → Share y z r t s i j
       only i j h =
           let m = pairs-meet (baseIn y (s .first) r) (baseIn z (s .second) t) (r .0) (refSum (opsIn y (s .first))) (i .0) (j .0) h in
           record {

@@ -9,30 +9,31 @@ use lib.Seq.{ext-getD}
 use Rattle.fields.specs.declared.Layout.{Layout}
 use Rattle.fields.specs.declared.RefPos.{RefPos}
 use Rattle.fields.specs.declared.ReadOffset.{ReadOffset}
-use Rattle.fields.specs.Check.{Lies}
+use Rattle.fields.specs.Sound.{Lies}
 use Rattle.fields.proofs.Arith.{lt-or-le, eq-or-ne}
 use Rattle.stats.specs.Counts.{plus}
 use Rattle.strategy.specs.declared.Strategies.{Strategies}
 use Rattle.bases.specs.Base.{half, baseAt, qualityAt}
 use Rattle.bases.proofs.BaseLaws.{lies-same}
 use Rattle.cigar.proofs.SitsLaws.{inRead}
-use Rattle.positions.specs.Step.{job, State, At, growths}
+use Rattle.fields.specs.Among.{Among}
+use Rattle.positions.specs.Step.{job, State, growths}
 use Rattle.positions.proofs.PointLaws.{Both, rising-one}
 use Rattle.merge.specs.Shared.{shared}
 use Rattle.merge.specs.Promise.{Names, Outside, Corrected, Bytes}
 use Rattle.merge.proofs.PromiseLaws.{shared-names}
 
 -- a list has a pair with the first number i, or none
-find₁ : (l : List (ℕ × ℕ)) (i : ℕ) → ((j : ℕ) × At l i j) ⊎ ((j : ℕ) → At l i j → ⊥)
-unfolding At
+find₁ : (l : List (ℕ × ℕ)) (i : ℕ) → ((j : ℕ) × Among l i j) ⊎ ((j : ℕ) → Among l i j → ⊥)
+unfolding Among
 find₁ [] i = inr (λ j h. h)
 find₁ (e ∷ l) i =
     ⊎-elim (λ q. inl (e .1, inl (q, refl)))
     (λ n. ⊎-elim (λ q. inl (q .0, inr (q .1))) (λ m. inr (λ j h. ⊎-elim (λ w. n (w .0)) (λ w. m j w) h)) (find₁ l i))
     (eq-or-ne (e .0) i)
 
-find₂ : (l : List (ℕ × ℕ)) (j : ℕ) → ((i : ℕ) × At l i j) ⊎ ((i : ℕ) → At l i j → ⊥)
-unfolding At
+find₂ : (l : List (ℕ × ℕ)) (j : ℕ) → ((i : ℕ) × Among l i j) ⊎ ((i : ℕ) → Among l i j → ⊥)
+unfolding Among
 find₂ [] j = inr (λ i h. h)
 find₂ (e ∷ l) j =
     ⊎-elim (λ q. inl (e .0, inl (refl, q)))

@@ -10,7 +10,8 @@ use Rattle.fields.specs.declared.ReadOffset.{ReadOffset}
 use Rattle.stats.specs.Counts.{plus}
 use Rattle.cigar.specs.Place.{Sits}
 use Rattle.bases.specs.Base.{baseAt, qualityAt}
-use Rattle.positions.specs.Step.{State, Job, At, Rising, Becomes, growths}
+use Rattle.fields.specs.Among.{Among}
+use Rattle.positions.specs.Step.{State, Job, Rising, Becomes, growths}
 use Rattle.merge.specs.Shared.{opsIn}
 
 -- base i of the first record and base j of the second sit at one position
@@ -21,8 +22,8 @@ pub record Share (y z : Layout) (p q : RefPos) (s : State) (i j : ReadOffset) : 
 
 -- the list has each pair of bases that share a position, once, and no other
 pub record Names (y z : Layout) (p q : RefPos) (s : State) (l : List (ℕ × ℕ)) : Type 0 where
-  pub all : (i j : ReadOffset) → Share y z p q s i j → At l (i .0) (j .0)
-  pub only : (i j : ReadOffset) → At l (i .0) (j .0) → Share y z p q s i j
+  pub all : (i j : ReadOffset) → Share y z p q s i j → Among l (i .0) (j .0)
+  pub only : (i j : ReadOffset) → Among l (i .0) (j .0) → Share y z p q s i j
   pub once : Rising l
 
 -- byte k holds neither a base nor a quality

@@ -5,8 +5,9 @@ use mathlib.Core.Option.{Option, none, some}
 use Rattle.fields.specs.declared.Layout.{Layout}
 use Rattle.fields.specs.declared.RefPos.{RefPos}
 use Rattle.cigar.specs.Operation.{operations, readSum, refSum}
-use Rattle.cigar.specs.Place.{baseOn}
-use Rattle.positions.specs.Step.{Job, State, steps}
+use Rattle.cigar.specs.Found.{baseOn}
+use Rattle.positions.specs.Step.{Job, State}
+use Rattle.positions.specs.Treating.{steps}
 
 -- the operations of a record
 abbrev pub opsIn : Layout → List ℕ → List ℕ

@@ -9,8 +9,8 @@ use strategy::Strategies;
 ghost use mathlib.Core.Path.{_≡_};
 ghost use Prim.Native.Nat.{_*_, min};
 ghost use lib.ListN.{length};
-ghost use Rattle.fields.specs.Check.{Lies};
-ghost use Rattle.stats.specs.Counts.{Room};
+ghost use Rattle.fields.specs.Sound.{Lies};
+ghost use Rattle.stats.specs.Room.{Room};
 ghost use Rattle.positions.specs.Step.{state, job};
 ghost use Rattle.merge.specs.Shared.{shared, merged, Walked};
 

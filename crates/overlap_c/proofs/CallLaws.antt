@@ -11,7 +11,7 @@ use Rattle.refusal.specs.Table.{codeOf}
 use Rattle.fields.specs.Number.{le, put}
 use Rattle.fields.proofs.NumberLaws.{length-put, put-before, put-after, le-put, le-same}
 use Rattle.stats.specs.declared.CorrectionStats.{CorrectionStats}
-use Rattle.stats.specs.Counts.{AtMost}
+use Rattle.stats.specs.Room.{AtMost}
 use Rattle.stats.proofs.CountLaws.{counts-as}
 use Rattle.strategy.specs.declared.Strategies.{Strategies}
 use Rattle.strategy.specs.declared.Numbered.{Numbered}

@@ -14,11 +14,10 @@ use Rattle.fields.specs.Check.{checkOf}
 use Rattle.stats.specs.Counts.{full}
 use Rattle.strategy.specs.declared.Strategies.{Strategies}
 use Rattle.positions.specs.Step.{State}
-use Rattle.pair.specs.declared.Answer.{Answer}
 use Rattle.pair.specs.declared.Answer.the-variants as Answers
 use Rattle.judgement.specs.declared.Judged.{Judged}
 use Rattle.judgement.specs.Judgement.{judgedOf}
-use Rattle.pair.specs.Pair.{Outcome, outcome, answerOf, onJudged, refusedAnswer, onGood, recordsOf, pairOf}
+use Rattle.pair.specs.Pair.{outcome, answerOf, onJudged, refusedAnswer, recordsOf, pairOf}
 
 -- ---- the answer by the number of shared positions
 pub none-met : (l : List (ℕ × ℕ)) (n : ℕ) → n ≡ length l → n ≡ 0 → Answers.NoOverlap ≡ answerOf l

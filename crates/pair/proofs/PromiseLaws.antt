@@ -1,46 +1,46 @@
 -- The pair call keeps its promise, and no second outcome does.
-use Prim.Native.Nat.{ℕ, zero, suc, _+_, _<_}
+use Prim.Native.Nat.{ℕ, _+_}
 use mathlib.Core.Path.{_≡_, refl, sym, ap, subst, _∙_}
 use mathlib.Core.List.{List, [], _∷_}
-use mathlib.Core.Bool.{Bool, true, false, cond, _||_}
-use mathlib.Core.Logic.{_↔_, _⊎_, inl, inr, ⊎-elim}
+use mathlib.Core.Bool.{Bool, true, false, cond}
+use mathlib.Core.Logic.{_⊎_, inl, inr, ⊎-elim}
 use native.Mathlib.Omega.{arith}
 use lib.IntN.{ℤ, pos, negsuc}
-use lib.ListN.{length}
 use Rattle.refusal.specs.declared.Refusal.{Refusal}
 use Rattle.refusal.specs.declared.Refusal.the-variants.{Count}
 use Rattle.fields.specs.declared.Layout.{Layout}
 use Rattle.fields.specs.declared.RefPos.{RefPos}
 use Rattle.fields.specs.declared.ReadOffset.{ReadOffset}
-use Rattle.fields.specs.declared.Placed.{Placed}
-use Rattle.fields.specs.declared.Placed.the-variants.{At, Unplaced}
+use Rattle.fields.specs.declared.Placed.the-variants.{At}
 use Rattle.fields.specs.declared.Checked.{Checked}
 use Rattle.fields.specs.declared.Checked.the-variants.{Good, Bad}
-use Rattle.fields.specs.Flag.{hasBit}
 use Rattle.fields.specs.Layout.{header, layoutOf}
-use Rattle.fields.specs.Placed.{placedOf, sameId}
-use Rattle.fields.specs.Check.{checkOf, Sound}
+use Rattle.fields.specs.Placed.{placedOf}
+use Rattle.fields.specs.Check.{checkOf}
+use Rattle.fields.specs.Sound.{Sound}
 use Rattle.fields.proofs.CheckLaws.{good-sound}
 use Rattle.fields.proofs.PlacedLaws.{same-id-equal, equal-same-id}
 use Rattle.stats.specs.Counts.{full}
 use Rattle.strategy.specs.declared.Strategies.{Strategies}
+use Rattle.cigar.specs.declared.Extent.{Extent}
 use Rattle.cigar.specs.declared.Span.{Span}
 use Rattle.cigar.specs.declared.Span.the-variants as Spans
 use Rattle.cigar.proofs.SitsLaws.{inRead}
-use Rattle.positions.specs.Step.{State, job, steps, At as InList}
+use Rattle.fields.specs.Among.{Among}
+use Rattle.positions.specs.Step.{State, job}
 use Rattle.positions.proofs.PointLaws.{Both}
 use Rattle.merge.specs.Shared.{shared, merged}
-use Rattle.merge.specs.Promise.{Share, Names, Corrected, Bytes}
+use Rattle.merge.specs.Promise.{Share, Names, Bytes}
 use Rattle.merge.proofs.PromiseLaws.{shared-names, promised}
 use Rattle.merge.proofs.UniqueLaws.{one-outcome}
 use Rattle.judgement.specs.declared.Judged.{Judged}
 use Rattle.judgement.specs.declared.Judged.the-variants as Judge
 use Rattle.pair.specs.declared.Answer.{Answer}
 use Rattle.pair.specs.declared.Answer.the-variants as Answers
-use Rattle.judgement.specs.Judgement.{onSpan, onPlaced, spanIn, mappedOf, judgedOf}
+use Rattle.judgement.specs.Judgement.{onSpan, spanIn, mappedOf, judgedOf}
 use Rattle.pair.specs.Pair.{Outcome, outcome, answerOf, onJudged, onGood, recordsOf, pairOf}
 use Rattle.pair.specs.Promise.{Accepted, Aligned, fromOne, Overlaps, Kept}
-use Rattle.judgement.proofs.TreatLaws.{Spanned, spanned, both-known, nothing-shared}
+use Rattle.judgement.proofs.TreatLaws.{spanned, both-known, nothing-shared}
 
 -- ---- a refusal, or "no overlap", leaves all as it was
 answer-of : (a b : Outcome) → a ≡ b → a .answer ≡ b .answer
@@ -57,10 +57,10 @@ quiet-judged : (w : Strategies) (y z : Layout) (s : State) (j : Judged) → Quie
 unfolding Quiet
 quiet-judged w y z s (Judge.Refused r) = inl refl
 quiet-judged w y z s Judge.Apart = inl refl
-quiet-judged w y z s (Judge.Both p q) = go (shared y z p q (s .first) (s .second)) refl
+quiet-judged w y z s (Judge.Both p q) = go (shared y z (p .start) (q .start) (s .first) (s .second)) refl
   where
-    go : (l : List (ℕ × ℕ)) → shared y z p q (s .first) (s .second) ≡ l → (merged (job w y z) p q s ≡ s) ⊎ (answerOf l ≡ Answers.Overlap)
-    go [] e = inl (sym (nothing-shared (job w y z) p q s e))
+    go : (l : List (ℕ × ℕ)) → shared y z (p .start) (q .start) (s .first) (s .second) ≡ l → (merged (job w y z) (p .start) (q .start) s ≡ s) ⊎ (answerOf l ≡ Answers.Overlap)
+    go [] e = inl (sym (nothing-shared (job w y z) (p .start) (q .start) s e))
     go (x ∷ l) e = inr refl
 
 quiet-good : (k : Checked) (s : State) (f : Layout → Outcome) → ((y : Layout) → Quiet s (f y)) → Quiet s (onGood k s f)
@@ -145,12 +145,12 @@ module _ (w : Strategies) (s : State) where
   z = layoutOf (s .second)
 
   some-position : (p q : RefPos) (l : List (ℕ × ℕ)) → Names y z p q s l → answerOf l ≡ Answers.Overlap → (i : ReadOffset) × ((j : ReadOffset) × Share y z p q s i j)
-  unfolding InList
+  unfolding Among
   some-position p q [] n e = let x : _≡_ {A = ℕ} 0 1 = cc in absurd (omega arith)
   some-position p q (x ∷ l) n e = (inRead (x .0), (inRead (x .1), n .only (inRead (x .0)) (inRead (x .1)) (inl (refl, refl))))
 
   answered : (p q : RefPos) (l : List (ℕ × ℕ)) → Names y z p q s l → (i : ReadOffset) × ((j : ReadOffset) × Share y z p q s i j) → answerOf l ≡ Answers.Overlap
-  unfolding InList
+  unfolding Among
   answered p q [] n h = absurd (n .all (h .0) (h .1 .0) (h .1 .1))
   answered p q (x ∷ l) n h = refl
 
@@ -162,7 +162,7 @@ module _ (w : Strategies) (s : State) where
   not-both r e f = let x : _≡_ {A = ℕ} 0 1 = cc in omega arith
 
   -- the outcome of two records that start at p and q, counted from 0
-  kept-at : (p q : ℕ) → Sound (s .first) y → Sound (s .second) z → Kept w s (onJudged w y z s (Judge.Both (fromOne p) (fromOne q))) p q
+  kept-at : (p q : ℕ) → Sound (s .first) y → Sound (s .second) z → Kept w s (outcome (answerOf (shared y z (fromOne p) (fromOne q) (s .first) (s .second))) (merged (job w y z) (fromOne p) (fromOne q) s)) p q
   kept-at p q g h =
       let l = shared y z (fromOne p) (fromOne q) (s .first) (s .second) in
       let n = shared-names w y z (fromOne p) (fromOne q) s in
@@ -181,17 +181,17 @@ module _ (w : Strategies) (s : State) where
       starts : (pos₀ : ℕ) (x : RefPos) → x .0 ≡ pos₀ + 1 → x ≡ fromOne pos₀
       starts pos₀ x f = λ i. record { 0 = f i }
 
-      second-span : (x : RefPos) → Sound (s .first) y → Sound (s .second) z → spanIn y (s .first) (al .pos₁) 1 ≡ Spans.Starts x → (v : Span) → spanIn z (s .second) (al .pos₂) 2 ≡ v
+      second-span : (x : Extent) → Sound (s .first) y → Sound (s .second) z → spanIn y (s .first) (al .pos₁) 1 ≡ Spans.Covers x → (v : Span) → spanIn z (s .second) (al .pos₂) 2 ≡ v
           → onJudged w y z s (onSpan v (λ t. Judge.Both x t)) ≡ o → Kept w s o (al .pos₁) (al .pos₂)
-      second-span x g h f (Spans.Starts t) k i =
-          let a = starts (al .pos₁) x (spanned y (s .first) (al .pos₁) 1 x f .first) in
-          let b = starts (al .pos₂) t (spanned z (s .second) (al .pos₂) 2 t k .first) in
+      second-span x g h f (Spans.Covers t) k i =
+          let a = starts (al .pos₁) (x .start) (spanned y (s .first) (al .pos₁) 1 x f .first) in
+          let b = starts (al .pos₂) (t .start) (spanned z (s .second) (al .pos₂) 2 t k .first) in
           subst (λ (u : Outcome). Kept w s u (al .pos₁) (al .pos₂)) ((rw (a, b) at i)) (kept-at (al .pos₁) (al .pos₂) g h)
       second-span x g h f (Spans.Refused r) k i = absurd (n r (sym (answer-of _ _ i)))
 
       first-span : Sound (s .first) y → Sound (s .second) z → (u : Span) → spanIn y (s .first) (al .pos₁) 1 ≡ u
           → onJudged w y z s (onSpan u (λ t. onSpan (spanIn z (s .second) (al .pos₂) 2) (λ v. Judge.Both t v))) ≡ o → Kept w s o (al .pos₁) (al .pos₂)
-      first-span g h (Spans.Starts x) f i = second-span x g h f (spanIn z (s .second) (al .pos₂) 2) refl i
+      first-span g h (Spans.Covers x) f i = second-span x g h f (spanIn z (s .second) (al .pos₂) 2) refl i
       first-span g h (Spans.Refused r) f i = absurd (n r (sym (answer-of _ _ i)))
 
   -- only aligned records overlap

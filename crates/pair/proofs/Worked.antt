@@ -2,7 +2,7 @@
 use mathlib.Core.Path.{refl}
 use Rattle.strategy.specs.Rule.{treated}
 use Rattle.cigar.specs.Operation.{readSum, refSum}
-use Rattle.cigar.specs.Place.{offAt}
+use Rattle.cigar.specs.Found.{offAt}
 use Rattle.merge.specs.Shared.{pairs}
 use Rattle.pair.specs.Examples.{Examples, sharedBy}
 

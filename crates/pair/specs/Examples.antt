@@ -8,18 +8,18 @@ use Rattle.strategy.specs.declared.DisagreementStrategy.the-variants as Differ
 use Rattle.strategy.specs.declared.Strategies.{Strategies}
 use Rattle.strategy.specs.Rule.{out, treated}
 use Rattle.cigar.specs.Operation.{readSum, refSum}
-use Rattle.cigar.specs.Place.{baseOn}
+use Rattle.cigar.specs.Found.{baseOn}
 use Rattle.merge.specs.Shared.{pairs}
 
 -- base codes
-abbrev pub A : ℕ
-A = 1
+abbrev pub baseA : ℕ
+baseA = 1
 
-abbrev pub T : ℕ
-T = 8
+abbrev pub baseT : ℕ
+baseT = 8
 
-abbrev pub N : ℕ
-N = 15
+abbrev pub baseN : ℕ
+baseN = 15
 
 abbrev pub consensus : Strategies
 consensus = record { agreement = Agree.Consensus; disagreement = Differ.Consensus }
@@ -28,17 +28,17 @@ abbrev pub maskLower : Strategies
 maskLower = record { agreement = Agree.Consensus; disagreement = Differ.MaskLowerQual }
 
 -- operations of a length
-abbrev pub M : ℕ → ℕ
-M n = n * 16 + 0
+abbrev pub opM : ℕ → ℕ
+opM n = n * 16 + 0
 
-abbrev pub I : ℕ → ℕ
-I n = n * 16 + 1
+abbrev pub opI : ℕ → ℕ
+opI n = n * 16 + 1
 
-abbrev pub D : ℕ → ℕ
-D n = n * 16 + 2
+abbrev pub opD : ℕ → ℕ
+opD n = n * 16 + 2
 
-abbrev pub S : ℕ → ℕ
-S n = n * 16 + 4
+abbrev pub opS : ℕ → ℕ
+opS n = n * 16 + 4
 
 -- the offsets at the shared positions of two alignments
 unfoldable pub sharedBy : List ℕ → ℕ → List ℕ → ℕ → List (ℕ × ℕ)
@@ -47,19 +47,19 @@ sharedBy x p y q = pairs (baseOn (readSum x) x p) (baseOn (readSum y) y q) p (re
 unfoldable pub Examples : Type 0
 Examples =
     -- agree, Consensus
-    (treated consensus A 30 A 20 ≡ out A 50 A 50 (counts 1 1 0 1))
-    × (treated consensus A 60 A 40 ≡ out A 93 A 93 (counts 1 1 0 1))
-    × (treated consensus A 255 A 255 ≡ out A 93 A 93 (counts 1 1 0 1))
-    × (treated consensus A 93 A 0 ≡ out A 93 A 93 (counts 1 1 0 1))
-    × (treated consensus A 0 A 0 ≡ out A 0 A 0 (counts 1 1 0 0))
+    (treated consensus baseA 30 baseA 20 ≡ out baseA 50 baseA 50 (counts 1 1 0 1))
+    × (treated consensus baseA 60 baseA 40 ≡ out baseA 93 baseA 93 (counts 1 1 0 1))
+    × (treated consensus baseA 255 baseA 255 ≡ out baseA 93 baseA 93 (counts 1 1 0 1))
+    × (treated consensus baseA 93 baseA 0 ≡ out baseA 93 baseA 93 (counts 1 1 0 1))
+    × (treated consensus baseA 0 baseA 0 ≡ out baseA 0 baseA 0 (counts 1 1 0 0))
     -- disagree, Consensus
-    × (treated consensus T 30 A 10 ≡ out T 20 T 20 (counts 1 0 1 2))
-    × (treated consensus T 31 A 30 ≡ out T 2 T 2 (counts 1 0 1 2))
-    × (treated consensus T 30 A 30 ≡ out N 2 N 2 (counts 1 0 1 2))
-    × (treated consensus T 255 A 30 ≡ out T 225 T 225 (counts 1 0 1 2))
+    × (treated consensus baseT 30 baseA 10 ≡ out baseT 20 baseT 20 (counts 1 0 1 2))
+    × (treated consensus baseT 31 baseA 30 ≡ out baseT 2 baseT 2 (counts 1 0 1 2))
+    × (treated consensus baseT 30 baseA 30 ≡ out baseN 2 baseN 2 (counts 1 0 1 2))
+    × (treated consensus baseT 255 baseA 30 ≡ out baseT 225 baseT 225 (counts 1 0 1 2))
     -- MaskLowerQual
-    × (treated maskLower T 10 A 30 ≡ out N 2 A 30 (counts 1 0 1 1))
+    × (treated maskLower baseT 10 baseA 30 ≡ out baseN 2 baseA 30 (counts 1 0 1 1))
     -- places
-    × (sharedBy (S 2 ∷ M 3 ∷ D 1 ∷ M 2 ∷ []) 10 (M 2 ∷ I 1 ∷ M 3 ∷ []) 12 ≡ (4, 0) ∷ (5, 3) ∷ (6, 4) ∷ [])
-    × (sharedBy (M 4 ∷ []) 10 (M 1 ∷ []) 13 ≡ (3, 0) ∷ [])
-    × (sharedBy (M 4 ∷ []) 10 (M 1 ∷ []) 14 ≡ [])
+    × (sharedBy (opS 2 ∷ opM 3 ∷ opD 1 ∷ opM 2 ∷ []) 10 (opM 2 ∷ opI 1 ∷ opM 3 ∷ []) 12 ≡ (4, 0) ∷ (5, 3) ∷ (6, 4) ∷ [])
+    × (sharedBy (opM 4 ∷ []) 10 (opM 1 ∷ []) 13 ≡ (3, 0) ∷ [])
+    × (sharedBy (opM 4 ∷ []) 10 (opM 1 ∷ []) 14 ≡ [])

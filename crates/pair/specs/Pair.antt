@@ -34,7 +34,7 @@ answerOf (e ∷ l) = Answers.Overlap
 abbrev pub onJudged : Strategies → Layout → Layout → State → Judged → Outcome
 onJudged w y z s (Judge.Refused r) = outcome (Answers.Refused r) s
 onJudged w y z s Judge.Apart = outcome Answers.NoOverlap s
-onJudged w y z s (Judge.Both p q) = outcome (answerOf (shared y z p q (s .first) (s .second))) (merged (job w y z) p q s)
+onJudged w y z s (Judge.Both p q) = outcome (answerOf (shared y z (p .start) (q .start) (s .first) (s .second))) (merged (job w y z) (p .start) (q .start) s)
 
 abbrev pub refusedAnswer : Checked → Answer
 refusedAnswer (Good y) = Answers.NoOverlap

@@ -1,7 +1,7 @@
 // The pair call: two records judged wholly, and only then corrected where they stand.
+use cigar::Extent;
 use fields::Checked;
 use fields::Layout;
-use fields::RefPos;
 use judgement::Judged;
 use refusal::Refusal;
 use stats::CorrectionStats;
@@ -9,9 +9,9 @@ use strategy::AgreementStrategy;
 use strategy::DisagreementStrategy;
 use strategy::Strategies;
 ghost use mathlib.Core.Path.{_≡_};
-ghost use Rattle.stats.specs.Counts.{Room};
+ghost use Rattle.stats.specs.Room.{Room};
 ghost use Rattle.positions.specs.Step.{state};
-ghost use Rattle.judgement.specs.Judgement.{Ready};
+ghost use Rattle.judgement.specs.Ready.{Ready};
 ghost use Rattle.pair.specs.Pair.{onJudged, refusedAnswer, outcome, pairOf, answerCode};
 
 // What a pair call answers. A refusal and "no overlap" change nothing.
@@ -57,8 +57,8 @@ fn call_both(
     second: &mut [u8],
     y: Layout,
     z: Layout,
-    p: RefPos,
-    q: RefPos,
+    p: Extent,
+    q: Extent,
     stats: CorrectionStats,
 ) -> Called
     requires { ⌜ Ready y z p q (now first) (now second) × Room stats 131072 ⌝ }

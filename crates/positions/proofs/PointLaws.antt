@@ -1,20 +1,21 @@
 -- What a rising list of positions leaves at each base: the rule's answer over the bytes at entry, and everything else as it was.
-use Prim.Native.Nat.{ℕ, zero, suc, _+_, _-_, _*_, _/_, _%_, _≤_, _<_}
+use Prim.Native.Nat.{ℕ, suc, _+_, _-_, _/_, _≤_, _<_}
 use mathlib.Core.Path.{_≡_, refl, sym, ap, subst, _∙_}
-use mathlib.Core.List.{List, [], _∷_, _++_}
+use mathlib.Core.List.{List, [], _∷_}
 use mathlib.Core.Logic.{_⊎_, inl, inr, ⊎-elim}
 use native.Mathlib.Omega.{arith}
-use lib.ListN.{length, getD}
+use lib.ListN.{length}
 use Rattle.fields.specs.declared.Layout.{Layout}
-use Rattle.fields.specs.Check.{Lies}
-use Rattle.stats.specs.declared.CorrectionStats.{CorrectionStats}
-use Rattle.stats.specs.Counts.{zeroed, plus}
+use Rattle.fields.specs.Sound.{Lies}
+use Rattle.stats.specs.Counts.{plus}
 use Rattle.stats.proofs.CountLaws.{plus-assoc, plus-zero}
 use Rattle.strategy.specs.declared.Strategies.{Strategies}
 use Rattle.strategy.specs.declared.Treated.{Treated}
-use Rattle.bases.specs.Base.{baseAt, qualityAt, put}
-use Rattle.bases.proofs.BaseLaws.{put-length, lies-same, put-base-same, put-base-other, put-qual-same, put-qual-other, put-outside}
-use Rattle.positions.specs.Step.{job, State, state, ruled, step, steps, growths, At, Rising, Becomes}
+use Rattle.bases.specs.Base.{baseAt, qualityAt}
+use Rattle.bases.proofs.BaseLaws.{put-length, lies-same, put-base-same, put-base-other, put-qual-same, put-qual-other}
+use Rattle.fields.specs.Among.{Among}
+use Rattle.positions.specs.Step.{job, State, ruled, growths, Rising, Becomes}
+use Rattle.positions.specs.Treating.{step, steps}
 use Rattle.positions.proofs.StepLaws.{ruled-fine}
 
 -- ---- a list of pairs that rises in both, from a and b on, below m and n
@@ -22,8 +23,8 @@ unfoldable pub Rises : ℕ → ℕ → ℕ → ℕ → List (ℕ × ℕ) → Typ
 Rises m n a b [] = Unit {0}
 Rises m n a b (e ∷ l) = (a ≤ e .0) × (e .0 < m) × (b ≤ e .1) × (e .1 < n) × Rises m n (suc (e .0)) (suc (e .1)) l
 
-pub at-low : (m n a b : ℕ) (l : List (ℕ × ℕ)) (i j : ℕ) → Rises m n a b l → At l i j → (a ≤ i) × (b ≤ j)
-unfolding Rises At
+pub at-low : (m n a b : ℕ) (l : List (ℕ × ℕ)) (i j : ℕ) → Rises m n a b l → Among l i j → (a ≤ i) × (b ≤ j)
+unfolding Rises Among
 at-low m n a b [] i j r h = absurd h
 at-low m n a b (e ∷ l) i j r h =
     ⊎-elim (λ q. omega (arith, r .0, r .2)) (λ q. let t = at-low m n (suc (e .0)) (suc (e .1)) l i j (r .4) q in omega (arith, t .0, t .1, r .0, r .2)) h
@@ -34,8 +35,8 @@ rises-rising m n a b [] r = tt
 rises-rising m n a b (e ∷ l) r = ((λ i j h. at-low m n (suc (e .0)) (suc (e .1)) l i j (r .4) h), rises-rising m n (suc (e .0)) (suc (e .1)) l (r .4))
 
 -- two rising lists of the same pairs are one
-pub rising-one : (l k : List (ℕ × ℕ)) → Rising l → Rising k → ((i j : ℕ) → At l i j → At k i j) → ((i j : ℕ) → At k i j → At l i j) → l ≡ k
-unfolding Rising At
+pub rising-one : (l k : List (ℕ × ℕ)) → Rising l → Rising k → ((i j : ℕ) → Among l i j → Among k i j) → ((i j : ℕ) → Among k i j → Among l i j) → l ≡ k
+unfolding Rising Among
 rising-one [] [] r q f g = refl
 rising-one [] (e ∷ k) r q f g = absurd (g (e .0) (e .1) (inl (refl, refl)))
 rising-one (e ∷ l) [] r q f g = absurd (f (e .0) (e .1) (inl (refl, refl)))
@@ -66,9 +67,9 @@ module _ (v : Strategies) (y z : Layout) where
       record { first = lies-same (put-length (s .first) y i _ _) (h .first); second = lies-same (put-length (s .second) z j _ _) (h .second) }
 
   -- a base that is in no pair is as it was
-  pub kept₁ : (l : List (ℕ × ℕ)) (a b k : ℕ) (s : State) → Rises (y .count) (z .count) a b l → Both y z s → ((j : ℕ) → At l k j → ⊥)
+  pub kept₁ : (l : List (ℕ × ℕ)) (a b k : ℕ) (s : State) → Rises (y .count) (z .count) a b l → Both y z s → ((j : ℕ) → Among l k j → ⊥)
       → (k / 2 < (y .count + 1) / 2 → baseAt ((steps (job v y z) l s) .first) y k ≡ baseAt (s .first) y k) × (qualityAt ((steps (job v y z) l s) .first) y k ≡ qualityAt (s .first) y k)
-  unfolding steps step Rises At
+  unfolding steps step Rises Among
   kept₁ [] a b k s r h f = (λ q. refl, refl)
   kept₁ (e ∷ l) a b k s r h f =
       let t = kept₁ l (suc (e .0)) (suc (e .1)) k (step (job v y z) s (e .0) (e .1)) (r .4) (both-step s (e .0) (e .1) h) (λ j q. f j (inr q)) in
@@ -78,9 +79,9 @@ module _ (v : Strategies) (y z : Layout) where
         t .1 ∙ put-qual-other (s .first) y (e .0) (o .base1) (o .qual1) (h .first) (r .1) k ne,
       )
 
-  pub kept₂ : (l : List (ℕ × ℕ)) (a b k : ℕ) (s : State) → Rises (y .count) (z .count) a b l → Both y z s → ((i : ℕ) → At l i k → ⊥)
+  pub kept₂ : (l : List (ℕ × ℕ)) (a b k : ℕ) (s : State) → Rises (y .count) (z .count) a b l → Both y z s → ((i : ℕ) → Among l i k → ⊥)
       → (k / 2 < (z .count + 1) / 2 → baseAt ((steps (job v y z) l s) .second) z k ≡ baseAt (s .second) z k) × (qualityAt ((steps (job v y z) l s) .second) z k ≡ qualityAt (s .second) z k)
-  unfolding steps step Rises At
+  unfolding steps step Rises Among
   kept₂ [] a b k s r h f = (λ q. refl, refl)
   kept₂ (e ∷ l) a b k s r h f =
       let t = kept₂ l (suc (e .0)) (suc (e .1)) k (step (job v y z) s (e .0) (e .1)) (r .4) (both-step s (e .0) (e .1) h) (λ j q. f j (inr q)) in
@@ -104,8 +105,8 @@ module _ (v : Strategies) (y z : Layout) where
         put-qual-other (s .second) z j (o .base2) (o .qual2) (h .second) hj n nv,
       )
 
-  at-high : (m n a b : ℕ) (l : List (ℕ × ℕ)) (i j : ℕ) → Rises m n a b l → At l i j → (i < m) × (j < n)
-  unfolding Rises At
+  at-high : (m n a b : ℕ) (l : List (ℕ × ℕ)) (i j : ℕ) → Rises m n a b l → Among l i j → (i < m) × (j < n)
+  unfolding Rises Among
   at-high m n a b [] i j r h = absurd h
   at-high m n a b (e ∷ l) i j r h =
       ⊎-elim (λ q. omega (arith, r .1, r .3)) (λ q. at-high m n (suc (e .0)) (suc (e .1)) l i j (r .4) q) h
@@ -127,8 +128,8 @@ module _ (v : Strategies) (y z : Layout) where
       }
 
   -- a pair becomes what the rule says of the bytes at entry
-  pub hit : (l : List (ℕ × ℕ)) (a b i j : ℕ) (s : State) → Rises (y .count) (z .count) a b l → Both y z s → At l i j → Becomes (job v y z) s (steps (job v y z) l s) i j
-  unfolding steps Rises At
+  pub hit : (l : List (ℕ × ℕ)) (a b i j : ℕ) (s : State) → Rises (y .count) (z .count) a b l → Both y z s → Among l i j → Becomes (job v y z) s (steps (job v y z) l s) i j
+  unfolding steps Rises Among
   hit [] a b i j s r h q = absurd q
   hit (e ∷ l) a b i j s r h q =
       ⊎-elim
@@ -162,9 +163,9 @@ module _ (v : Strategies) (y z : Layout) where
 
   -- the counts grow by what the rule says of the bytes at entry
   pub counted : (l : List (ℕ × ℕ)) (a b : ℕ) (s₀ s : State) → Rises (y .count) (z .count) a b l → Both y z s
-      → ((i j : ℕ) → At l i j → ruled (job v y z) (s .first) (s .second) i j ≡ ruled (job v y z) (s₀ .first) (s₀ .second) i j)
+      → ((i j : ℕ) → Among l i j → ruled (job v y z) (s .first) (s .second) i j ≡ ruled (job v y z) (s₀ .first) (s₀ .second) i j)
       → (steps (job v y z) l s) .stats ≡ plus (s .stats) (growths (job v y z) (s₀ .first) (s₀ .second) l)
-  unfolding steps step growths Rises At
+  unfolding steps step growths Rises Among
   counted [] a b s₀ s r h f = sym (plus-zero (s .stats))
   counted (e ∷ l) a b s₀ s r h f =
       let w = job v y z in

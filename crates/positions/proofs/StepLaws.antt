@@ -6,20 +6,23 @@ use native.Mathlib.Omega.{arith}
 use lib.ListN.{length, take}
 use Rattle.fields.specs.declared.Layout.{Layout}
 use Rattle.stats.specs.declared.CorrectionStats.{CorrectionStats}
-use Rattle.stats.specs.Counts.{plus, Room, Adds, AtMost}
+use Rattle.stats.specs.Counts.{plus}
+use Rattle.stats.specs.Room.{Room, Adds, AtMost}
 use Rattle.stats.proofs.CountLaws.{room-less, room-plus}
 use Rattle.strategy.specs.declared.Strategies.{Strategies}
 use Rattle.strategy.specs.declared.Treated.{Treated}
 use Rattle.strategy.specs.Rule.{treated}
 use Rattle.strategy.proofs.RuleLaws.{Fine, fine}
 use Rattle.bases.specs.declared.Seen.{Seen}
-use Rattle.bases.specs.Base.{baseAt, qualityAt, put, SeenAt}
+use Rattle.bases.specs.Base.{baseAt, qualityAt}
+use Rattle.bases.specs.Written.{withSeen, SeenAt}
 use Rattle.bases.proofs.BaseLaws.{half-small, put-length, put-front}
-use Rattle.positions.specs.Step.{Job, State, state, ruled, wrote, step, steps, row, growths}
+use Rattle.positions.specs.Step.{Job, State, state, ruled, growths}
+use Rattle.positions.specs.Treating.{wrote, step, steps, row}
 
 -- ---- one position
 pub step-as : (w : Job) (a b a′ b′ : List ℕ) (g g′ : CorrectionStats) (i j : ℕ) (p q : Seen) (o : Treated) → SeenAt a (w .first) i p → SeenAt b (w .second) j q
-    → o ≡ treated (w .strategies) (p .base) (p .quality) (q .base) (q .quality) → a′ ≡ put a (w .first) i (o .base1) (o .qual1) → b′ ≡ put b (w .second) j (o .base2) (o .qual2) → g′ ≡ plus g (o .growth)
+    → o ≡ treated (w .strategies) (p .base) (p .quality) (q .base) (q .quality) → a′ ≡ withSeen a (w .first) i (o .base1) (o .qual1) → b′ ≡ withSeen b (w .second) j (o .base2) (o .qual2) → g′ ≡ plus g (o .growth)
     → state a′ b′ g′ ≡ step w (state a b g) i j
 unfolding step
 step-as w a b a′ b′ g g′ i j p q o hp hq e ea eb eg =

@@ -6,9 +6,10 @@ use strategy::Strategies;
 ghost use mathlib.Core.Path.{_≡_};
 ghost use Prim.Native.Nat.{_+_, _*_, _≤_, _<_};
 ghost use lib.ListN.{length};
-ghost use Rattle.fields.specs.Check.{Lies};
-ghost use Rattle.stats.specs.Counts.{Room};
-ghost use Rattle.positions.specs.Step.{state, job, step, steps, row};
+ghost use Rattle.fields.specs.Sound.{Lies};
+ghost use Rattle.stats.specs.Room.{Room};
+ghost use Rattle.positions.specs.Step.{state, job};
+ghost use Rattle.positions.specs.Treating.{step, steps, row};
 
 // One shared position: base i of the first record and base j of the second.
 pub fn treat_one(

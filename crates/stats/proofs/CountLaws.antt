@@ -6,7 +6,8 @@ use native.Mathlib.Omega.{arith}
 use lib.Dec.{ltb}
 use borrow.Author.Tests.{ltb-true, ltb-false, lt-ltb, le-ltb}
 use Rattle.stats.specs.declared.CorrectionStats.{CorrectionStats}
-use Rattle.stats.specs.Counts.{counts, zeroed, plus, above, full, AtMost, Room, Adds}
+use Rattle.stats.specs.Counts.{counts, zeroed, plus, above, full}
+use Rattle.stats.specs.Room.{AtMost, Room, Adds}
 
 pub counts-as : (g h : CorrectionStats) → g .overlapping ≡ h .overlapping → g .agreeing ≡ h .agreeing → g .disagreeing ≡ h .disagreeing → g .corrected ≡ h .corrected → g ≡ h
 counts-as g h o a d c = λ i. record { overlapping = o i; agreeing = a i; disagreeing = d i; corrected = c i }

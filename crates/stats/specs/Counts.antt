@@ -1,5 +1,5 @@
 -- The four counts: zero, the sum, what a call accepts, and the merge of two.
-use Prim.Native.Nat.{ℕ, _+_, _<_, _≤_}
+use Prim.Native.Nat.{ℕ, _+_}
 use mathlib.Core.Bool.{Bool, cond, _||_}
 use lib.Dec.{ltb}
 use Rattle.refusal.specs.declared.Refusal.the-variants.{Sum}
@@ -27,24 +27,3 @@ full g = above 18446744073692774399 g
 -- refusal 13: a sum above 2 ^ 64 - 1
 abbrev pub mergedOf : CorrectionStats → CorrectionStats → Merged
 mergedOf g h = cond (above 18446744073709551615 (plus g h)) (Refused Sum) (Total (plus g h))
-
--- each count is at most n
-pub record AtMost (n : ℕ) (g : CorrectionStats) : Type 0 where
-  pub overlapping : g .overlapping ≤ n
-  pub agreeing : g .agreeing ≤ n
-  pub disagreeing : g .disagreeing ≤ n
-  pub corrected : g .corrected ≤ n
-
--- each count can grow by n
-pub record Room (g : CorrectionStats) (n : ℕ) : Type 0 where
-  pub overlapping : g .overlapping + n < 18446744073709551616
-  pub agreeing : g .agreeing + n < 18446744073709551616
-  pub disagreeing : g .disagreeing + n < 18446744073709551616
-  pub corrected : g .corrected + n < 18446744073709551616
-
--- each sum fits
-pub record Adds (g h : CorrectionStats) : Type 0 where
-  pub overlapping : g .overlapping + h .overlapping < 18446744073709551616
-  pub agreeing : g .agreeing + h .agreeing < 18446744073709551616
-  pub disagreeing : g .disagreeing + h .disagreeing < 18446744073709551616
-  pub corrected : g .corrected + h .corrected < 18446744073709551616

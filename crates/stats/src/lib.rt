@@ -4,7 +4,8 @@ use refusal::Refusal;
 ghost use mathlib.Core.Path.{_≡_};
 ghost use Prim.Native.Nat.{_+_};
 ghost use lib.Dec.{ltb};
-ghost use Rattle.stats.specs.Counts.{zeroed, plus, full, Adds, mergedOf};
+ghost use Rattle.stats.specs.Counts.{zeroed, plus, full, mergedOf};
+ghost use Rattle.stats.specs.Room.{Adds};
 
 // Shared positions with two called bases; of these those that agree and those that disagree; and
 // bases or qualities changed.

@@ -6,7 +6,8 @@ use native.Mathlib.Omega.{arith}
 use lib.Dec.{eqb, ltb, leb}
 use borrow.Author.Tests.{lt-ltb, le-ltb, le-leb, lt-leb, eq-eqb, ne-eqb}
 use Rattle.stats.specs.declared.CorrectionStats.{CorrectionStats}
-use Rattle.stats.specs.Counts.{counts, zeroed, AtMost}
+use Rattle.stats.specs.Counts.{counts, zeroed}
+use Rattle.stats.specs.Room.{AtMost}
 use Rattle.strategy.specs.declared.AgreementStrategy.{AgreementStrategy}
 use Rattle.strategy.specs.declared.AgreementStrategy.the-variants as Agree
 use Rattle.strategy.specs.declared.DisagreementStrategy.{DisagreementStrategy}

@@ -1,13 +1,11 @@
 -- To judge a pair with the indexes as places is to judge it by the pair call and name the record at fault by its index.
 use Prim.Native.Nat.{ℕ, _+_}
-use mathlib.Core.Path.{_≡_, refl, sym, ap, _∙_}
+use mathlib.Core.Path.{_≡_, refl, ap, _∙_}
 use mathlib.Core.Bool.{Bool, true, false, cond, _&&_, _||_, not}
 use mathlib.Core.List.{List, [], _∷_}
 use lib.Dec.{eqb, ltb}
 use lib.ListN.{length}
-use Rattle.refusal.specs.declared.Refusal.{Refusal}
 use Rattle.fields.specs.declared.Layout.{Layout}
-use Rattle.fields.specs.declared.RefPos.{RefPos}
 use Rattle.fields.specs.declared.Placed.{Placed}
 use Rattle.fields.specs.declared.Placed.the-variants.{At, Unplaced}
 use Rattle.fields.specs.declared.Checked.{Checked}
@@ -26,21 +24,19 @@ use Rattle.cigar.specs.declared.Operations.the-variants as Ops
 use Rattle.cigar.specs.declared.Span.{Span}
 use Rattle.cigar.specs.declared.Span.the-variants as Spans
 use Rattle.cigar.specs.Operation.{operations}
-use Rattle.cigar.specs.Judge.{walkOf, judged, operationsOf, spanOf}
+use Rattle.cigar.specs.Judge.{walkOf, judged, operationsOf, extent, spanOf}
 use Rattle.merge.specs.Shared.{shared}
 use Rattle.positions.specs.Step.{State, state}
-use Rattle.pair.specs.declared.Answer.{Answer}
 use Rattle.pair.specs.declared.Answer.the-variants as Answers
 use Rattle.judgement.specs.declared.Judged.{Judged}
 use Rattle.judgement.specs.declared.Judged.the-variants as Judge
 use Rattle.judgement.specs.Judgement.{onUses, onSpan, onPlaced, spanIn, mappedOf, judgedOf}
-use Rattle.pair.specs.Pair.{Outcome, answerOf, onJudged, recordsOf, pairOf}
-use Rattle.pair.specs.Pair.{onGood as onPair}
+use Rattle.pair.specs.Pair.{answerOf, onJudged, onGood, recordsOf, pairOf}
 use Rattle.frames.specs.Frame.{recordOf}
 use Rattle.verdicts.specs.declared.Verdict.{Verdict}
 use Rattle.verdicts.specs.declared.Verdict.the-variants.{Passed, Refused}
 use Rattle.verdicts.specs.Judged.{indexOf, atIndex, answered, verdictAt, onVerdict, judgeBy}
-use Rattle.verdicts.specs.Indexed.{onGood, ofJudged, indexedOf, indexedAt}
+use Rattle.verdicts.specs.Indexed.{onChecked, ofJudged, indexedOf, indexedAt}
 
 module _ (i j : ℕ) where
   -- each answer with its refusal named by the index
@@ -53,7 +49,7 @@ module _ (i j : ℕ) where
   operationsAt (Ops.Refused r) = Ops.Refused (atIndex i j r)
 
   abbrev spanAt : Span → Span
-  spanAt (Spans.Starts p) = Spans.Starts p
+  spanAt (Spans.Covers p) = Spans.Covers p
   spanAt (Spans.Refused r) = Spans.Refused (atIndex i j r)
 
   abbrev judgedAt : Judged → Judged
@@ -91,7 +87,7 @@ module _ (i j : ℕ) where
   unfolding spanOf
   span-at pos n p = go (ltb 2147483646 (pos + n))
     where
-      go : (t : Bool) → cond t (Spans.Refused (ReferenceEnd (indexOf i j p))) (Spans.Starts (record { 0 = pos + 1 })) ≡ spanAt (cond t (Spans.Refused (ReferenceEnd p)) (Spans.Starts (record { 0 = pos + 1 })))
+      go : (t : Bool) → cond t (Spans.Refused (ReferenceEnd (indexOf i j p))) (Spans.Covers (extent pos n)) ≡ spanAt (cond t (Spans.Refused (ReferenceEnd p)) (Spans.Covers (extent pos n)))
       go true = refl
       go false = refl
 
@@ -105,8 +101,8 @@ module _ (i j : ℕ) where
       go (Ops.Refused r) = refl
 
   spans-at : (u v : Span) → onSpan (spanAt u) (λ s. onSpan (spanAt v) (λ t. Judge.Both s t)) ≡ judgedAt (onSpan u (λ s. onSpan v (λ t. Judge.Both s t)))
-  spans-at (Spans.Starts p) (Spans.Starts q) = refl
-  spans-at (Spans.Starts p) (Spans.Refused r) = refl
+  spans-at (Spans.Covers p) (Spans.Covers q) = refl
+  spans-at (Spans.Covers p) (Spans.Refused r) = refl
   spans-at (Spans.Refused r) v = refl
 
   mapped-at : (y z : Layout) (a b : List ℕ) → mappedOf y z a b i j ≡ judgedAt (mappedOf y z a b 1 2)
@@ -148,14 +144,14 @@ module _ (i j : ℕ) where
         third : (y z : Layout) (k : Judged) → ofJudged (judgedAt k) ≡ answered i j (onJudged w y z s k .answer)
         third y z (Judge.Refused r) = refl
         third y z Judge.Apart = refl
-        third y z (Judge.Both p q) = shared-passes (shared y z p q a b)
+        third y z (Judge.Both p q) = shared-passes (shared y z (p .start) (q .start) a b)
 
-        second : (y : Layout) (k : Checked) → onGood (checkedAt k) (λ z. ofJudged (judgedOf y z a b i j)) ≡ answered i j (onPair k s (λ z. onJudged w y z s (judgedOf y z a b 1 2)) .answer)
+        second : (y : Layout) (k : Checked) → onChecked (checkedAt k) (λ z. ofJudged (judgedOf y z a b i j)) ≡ answered i j (onGood k s (λ z. onJudged w y z s (judgedOf y z a b 1 2)) .answer)
         second y (Good z) = ap ofJudged (judged-of-at y z a b) ∙ third y z (judgedOf y z a b 1 2)
         second y (Bad r) = refl
 
-        first : (k : Checked) → onGood (checkedAt k) (λ y. onGood (checkedAt (checkOf b 2)) (λ z. ofJudged (judgedOf y z a b i j)))
-            ≡ answered i j (onPair k s (λ y. onPair (checkOf b 2) s (λ z. onJudged w y z s (judgedOf y z a b 1 2))) .answer)
+        first : (k : Checked) → onChecked (checkedAt k) (λ y. onChecked (checkedAt (checkOf b 2)) (λ z. ofJudged (judgedOf y z a b i j)))
+            ≡ answered i j (onGood k s (λ y. onGood (checkOf b 2) s (λ z. onJudged w y z s (judgedOf y z a b 1 2))) .answer)
         first (Good y) = second y (checkOf b 2)
         first (Bad r) = refl
 

@@ -1,7 +1,7 @@
 -- A pair judged, by what the code finds; and one turn of the loop over the pairs.
-use Prim.Native.Nat.{ℕ, zero, suc, _+_, _-_, _<_, _≤_}
-use mathlib.Core.Path.{_≡_, refl, sym, ap, _∙_}
-use mathlib.Core.List.{List, [], _∷_}
+use Prim.Native.Nat.{ℕ, suc, _+_, _-_, _<_, _≤_}
+use mathlib.Core.Path.{_≡_, sym, ap, _∙_}
+use mathlib.Core.List.{List, []}
 use native.Mathlib.Numerals.{add-one}
 use native.Mathlib.Omega.{arith}
 use Rattle.refusal.specs.declared.Refusal.{Refusal}
@@ -16,7 +16,7 @@ use Rattle.mates.proofs.OnceLaws.{mate-below}
 use Rattle.verdicts.specs.declared.Verdict.{Verdict}
 use Rattle.verdicts.specs.declared.Verdict.the-variants.{Passed, Refused}
 use Rattle.verdicts.specs.Judged.{onVerdict, judgeBy}
-use Rattle.verdicts.specs.Indexed.{onGood, ofChecked, ofJudged, indexedOf}
+use Rattle.verdicts.specs.Indexed.{ofChecked, ofJudged, indexedOf}
 
 -- ---- one pair
 module _ (a b : List ℕ) (i j : ℕ) where

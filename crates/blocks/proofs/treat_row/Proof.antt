@@ -7,7 +7,8 @@ use borrow.Author.Needs.{needs}
 use denote.Ref.{now}
 use Rattle.stats.proofs.CountLaws.{room-less}
 use Rattle.bases.proofs.BaseLaws.{lies-same}
-use Rattle.positions.specs.Step.{State, state, job, row}
+use Rattle.positions.specs.Step.{State, state, job}
+use Rattle.positions.specs.Treating.{row}
 use Rattle.positions.proofs.StepLaws.{Running, running-start, steps-length, row-end}
 use Rattle.blocks.proofs.RowLaws.{running-block}
 use Rattle.blocks.proofs.treat_row.Statement.{statement}

@@ -41,24 +41,21 @@ returns-2 c =
     let loop = turn .loop in
     walking-zero (now (args .s)) (args .from) (args .end) (entry .pre .1) (loop .at) (loop .read) (loop .reference) (loop .inv) (by-operation-at .operation-at .result) (omega arith) (by-operation-at .operation-at .ensures .0) (by-if1 .if1 .left) (c .if2 .taken)
 
-kind-of-requires : tie.Need-kind-of-requires Inv-loop μ-loop
-kind-of-requires c κs = search needs
-
-read-of-requires : tie.Need-read-of-requires Inv-loop μ-loop
-read-of-requires c κs = search needs
+read-len-requires : tie.Need-read-len-requires Inv-loop μ-loop
+read-len-requires c κs = search needs
 
 add-read : tie.Need-add-read Inv-loop μ-loop
 add-read c =
-    let turn = c .before .before .before .before .before .before in
-    omega (arith, turn .loop .inv .reads, c .read-of .ensures .1)
+    let turn = c .before .before .before .before .before in
+    omega (arith, turn .loop .inv .reads, c .read-len .ensures .1)
 
-ref-of-requires : tie.Need-ref-of-requires Inv-loop μ-loop
-ref-of-requires c κs = search needs
+ref-len-requires : tie.Need-ref-len-requires Inv-loop μ-loop
+ref-len-requires c κs = search needs
 
 add-reference : tie.Need-add-reference Inv-loop μ-loop
 add-reference c =
-    let turn = c .before .before .before .before .before .before .before in
-    omega (arith, turn .loop .inv .refs, c .ref-of .ensures .1)
+    let turn = c .before .before .before .before .before .before in
+    omega (arith, turn .loop .inv .refs, c .ref-len .ensures .1)
 
 add-at : tie.Need-add-at Inv-loop μ-loop
 add-at c = omega arith
@@ -68,16 +65,13 @@ loop-less c = omega arith
 
 loop-again : tie.Need-loop-again Inv-loop μ-loop
 loop-again c =
-    let by-read-of = c .before in
-    let by-kind-of = by-read-of .before in
-    let by-if2 = by-kind-of .before in
-    let by-if1 = by-if2 .before in
-    let by-operation-at = by-if1 .before in
-    let turn = by-operation-at .before .before in
-    let entry = turn .before .before in
+    let by-before = c .before .before in
+    let by-before′ = by-before .before in
+    let by-before′′ = by-before′ .before in
+    let by-before′′′ = by-before′′ .before .before in
+    let entry = by-before′′′ .before .before in
     let args = entry .args in
-    let loop = turn .loop in
-    walking-turn (now (args .s)) (args .from) (args .end) (entry .pre .1) (loop .at) (loop .read) (loop .reference) (loop .inv) (by-operation-at .operation-at .result) (omega arith) (by-operation-at .operation-at .ensures .0) (by-kind-of .kind-of .result) (by-read-of .read-of .result) (c .ref-of .result) (by-kind-of .kind-of .ensures) (by-operation-at .operation-at .ensures .1) (by-if1 .if1 .left) (by-if2 .if2 .left) (by-read-of .read-of .ensures) (c .ref-of .ensures)
+    walking-turn (now (args .s)) (args .from) (args .end) (entry .pre .1) (by-before′′′ .loop .at) (by-before′′′ .loop .read) (by-before′′′ .loop .reference) (by-before′′′ .loop .inv) (by-before′′ .operation-at .result) (omega arith) (by-before′′ .operation-at .ensures .0) (c .before .read-len .result) (c .ref-len .result) (by-before′′ .operation-at .ensures .1) (by-before′ .if1 .left) (by-before .if2 .left) (c .before .read-len .ensures) (c .ref-len .ensures)
 
 returns-3 : tie.Need-returns-3 Inv-loop μ-loop
 returns-3 c =
@@ -98,10 +92,9 @@ walk-operations-spec =
     operation-at-requires
     returns
     returns-2
-    kind-of-requires
-    read-of-requires
+    read-len-requires
     add-read
-    ref-of-requires
+    ref-len-requires
     add-reference
     add-at
     loop-less

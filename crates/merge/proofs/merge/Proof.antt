@@ -2,7 +2,8 @@
 use Prim.Native.Nat.{_+_, _-_, _*_}
 use Rattle.stats.proofs.CountLaws.{room-less}
 use Rattle.bases.proofs.BaseLaws.{lies-same}
-use Rattle.positions.specs.Step.{state, row}
+use Rattle.positions.specs.Step.{state}
+use Rattle.positions.specs.Treating.{row}
 use Rattle.merge.proofs.MergeLaws.{Merging, e₁, e₂, merging-start, merging-first, merging-second, merging-both, merging-end₁, merging-end₂, ready₁, ready₂, ran, less₁, less₂, settled-at, start-stands}
 use borrow.Author.Needs.{needs}
 use native.Mathlib.Omega.{arith}

@@ -5,7 +5,8 @@ use lib.Seq.{length-sets}
 use borrow.Author.Needs.{needs}
 use denote.Ref.{now}
 use Rattle.bases.proofs.BaseLaws.{lies-same}
-use Rattle.positions.specs.Step.{State, state, job, row}
+use Rattle.positions.specs.Step.{State, state, job}
+use Rattle.positions.specs.Treating.{row}
 use Rattle.positions.proofs.StepLaws.{steps-length}
 use Rattle.blocks.proofs.TallyLaws.{growth-adds, after-as, after-room, block-treated, block-done}
 use Rattle.blocks.proofs.block.treat_block.Statement.{statement}
