@@ -43,7 +43,7 @@ unfolding keyIn
 fits-chain x y kx ky q ex ey t =
     let p = and-true (eqb (placeIn x) q) (sameBytes (nameIn x) (nameIn y)) t in
     let e : kx / 4 ≡ ky / 4 = omega (arith, ex, ey, place-small x, place-small y, ap (digestFrom 0) (same-true (nameIn x) (nameIn y) (p .1))) in
-    ap (λ (z : ℕ). z % 256) e
+    ap (λ (z : ℕ). z / 16777216 % 256) e
 
 module _ (s key : List ℕ) (n : ℕ) (u : Keyed s key n) (q i : ℕ) (below : i < n) where
   abbrev h : ℕ
