@@ -115,6 +115,12 @@ fn same(x: &[u8], y: &[u8]) -> bool
         return false;
     }
     let mut i = 0;
+    while 4 <= x.len() - i {
+        if fields::u32_at(x, i) != fields::u32_at(y, i) {
+            return false;
+        }
+        i += 4;
+    }
     while i < x.len() {
         if x[i] != y[i] {
             return false;
