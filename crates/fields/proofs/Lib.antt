@@ -2,3 +2,4 @@ pub mod Arith
 pub mod NumberLaws
 pub mod PlacedLaws
 pub mod CheckLaws
+pub mod NameLaws

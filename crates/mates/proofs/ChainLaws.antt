@@ -12,8 +12,9 @@ use borrow.Author.Count.{below-more, below-none}
 use lib.Dec.{eqb}
 use lib.ListN.{length, getD, set, length-set}
 use lib.Seq.{getD-set-same, getD-set-other}
+use Rattle.fields.specs.Layout.{nameIn}
 use Rattle.frames.specs.Frame.{recordOf}
-use Rattle.mates.specs.Register.{placeIn, nameIn, placeAt, nameAt, sameBytes, fits, holder}
+use Rattle.mates.specs.Register.{placeIn, placeAt, nameAt, sameBytes, fits, holder}
 use Rattle.mates.specs.Table.{digestFrom, keyIn, Keyed, chainOf, lastIn, Chained}
 use Rattle.mates.proofs.NameLaws.{and-true, same-true}
 use Rattle.mates.proofs.KeyLaws.{place-small, holder-no}

@@ -11,8 +11,8 @@ use lib.ListN.{length, getD, drop, drop-of-length-le, length-drop}
 use lib.Seq.{drop-cons}
 use Rattle.fields.specs.Number.{le}
 use Rattle.fields.specs.Flag.{hasBit}
-use Rattle.fields.specs.Layout.{header}
-use Rattle.mates.specs.Register.{placeBy, placeIn, nameIn, nameAt, sameBytes, fits, holder, mateOf}
+use Rattle.fields.specs.Layout.{header, nameIn}
+use Rattle.mates.specs.Register.{placeBy, placeIn, nameAt, sameBytes, fits, holder, mateOf}
 use Rattle.mates.specs.Table.{mixOf, digestFrom, keyIn}
 use Rattle.mates.proofs.NameLaws.{and-true, same-true, same-refl}
 

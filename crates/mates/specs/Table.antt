@@ -6,8 +6,9 @@ use mathlib.Core.Path.{_≡_}
 use lib.Dec.{eqb}
 use lib.ListN.{length, getD}
 use Rattle.fields.specs.Number.{le}
+use Rattle.fields.specs.Layout.{nameIn}
 use Rattle.frames.specs.Frame.{recordOf}
-use Rattle.mates.specs.Register.{placeIn, nameIn, matesOf}
+use Rattle.mates.specs.Register.{placeIn, matesOf}
 
 -- a digest of a name, below 2 ^ 62: of its words of four bytes, then of the bytes that are left
 abbrev pub mixOf : ℕ → ℕ → ℕ

@@ -4,10 +4,10 @@ use fields::Flags;
 ghost use mathlib.Core.Path.{_≡_};
 ghost use Prim.Native.Nat.{ℕ, _+_, _-_, _<_, _≤_};
 ghost use lib.ListN.{length, getD};
-ghost use Rattle.fields.specs.Layout.{layoutOf, header};
+ghost use Rattle.fields.specs.Layout.{layoutOf, header, nameIn};
 ghost use Rattle.fields.specs.Check.{Sound};
 ghost use Rattle.frames.specs.Table.{Placed};
-ghost use Rattle.mates.specs.Register.{placeBy, placeIn, nameIn, placeAt, nameAt, sameBytes, fits, holder, matesOf};
+ghost use Rattle.mates.specs.Register.{placeBy, placeIn, placeAt, nameAt, sameBytes, fits, holder, matesOf};
 ghost use Rattle.mates.specs.Table.{mixOf, digestFrom, keyIn, Keyed, chainOf, Chained, Mated};
 
 // The places that a record may register for; 0 is none.
