@@ -3,3 +3,4 @@ pub mod NumberLaws
 pub mod PlacedLaws
 pub mod CheckLaws
 pub mod AmongLaws
+pub mod NameLaws

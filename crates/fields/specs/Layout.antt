@@ -1,7 +1,8 @@
 -- The layout of a record: its numbers at fixed offsets, and where the parts after them begin.
-use Prim.Native.Nat.{ℕ, _+_, _*_, _/_}
+use Prim.Native.Nat.{ℕ, _+_, _-_, _*_, _/_}
 use mathlib.Core.List.{List}
 use lib.IntN.{ℤ}
+use lib.ListN.{take, drop}
 use Rattle.fields.specs.Number.{le, signed32}
 use Rattle.fields.specs.declared.Layout.{Layout}
 
@@ -35,6 +36,10 @@ header s =
       matePos = signed32 (le 4 s 24);
       templateLength = signed32 (le 4 s 28);
     }
+
+-- the name: its length minus 1 bytes from 32 on, none for the lengths 0 and 1
+unfoldable pub nameIn : List ℕ → List ℕ
+nameIn s = take (header s .nameLength - 1) (drop 32 s)
 
 -- the name begins at 32; after it the operations
 abbrev pub operationsAt : List ℕ → ℕ

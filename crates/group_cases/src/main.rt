@@ -11,15 +11,25 @@ fn room() -> [u8; 70000]
     [0; 70000]
 }
 
-// Room for what is written.
-fn output_room() -> [u8; 65792]
-    ensures { λ r. ⌜ 65792 ≡ length r ⌝ }
-{
-    [0; 65792]
+// Whether m bytes must be written, and they are the line and then the group.
+fn as_expected(line: &[u8], group: &[u8], expected: &[u8], m: usize) -> bool {
+    let want = overlap_line::part(expected, 0, m);
+    let front = overlap_line::part(want, 0, line.len());
+    let back = overlap_line::part(want, line.len(), m);
+    check::same(line, front) && check::same(group, back)
+}
+
+// Writes whether a case is as expected.
+fn tell(good: bool) {
+    if good {
+        io::write_all(1, b"as expected\n");
+    } else {
+        io::write_all(1, b"DIFFERS\n");
+    }
 }
 
 // Reads a case, runs it and writes whether it is as expected. False where no case is left.
-fn run_case(head: &mut [u8], input: &mut [u8], expected: &mut [u8], out: &mut [u8; 65792]) -> bool {
+fn run_case(head: &mut [u8], input: &mut [u8], expected: &mut [u8], out: &mut [u8; 256]) -> bool {
     let got = io::read_full(0, head);
     if got < 40 {
         return false;
@@ -34,21 +44,19 @@ fn run_case(head: &mut [u8], input: &mut [u8], expected: &mut [u8], out: &mut [u
     }
     io::read_full(0, &mut input[0..n]);
     io::read_full(0, &mut expected[0..m]);
-    let r = overlap_line::overlap(input, n, out);
-    io::write_all(1, overlap_line::front(head, 32));
-    if check::same(
-        overlap_line::written(out, r),
-        overlap_line::front(expected, m),
-    ) {
-        io::write_all(1, b"as expected\n");
-    } else {
-        io::write_all(1, b"DIFFERS\n");
-    }
+    let written = overlap_line::overlap(input, n, out);
+    io::write_all(1, overlap_line::part(head, 0, 32));
+    tell(as_expected(
+        overlap_line::line_of(out, written.line),
+        overlap_line::part(input, 2, written.group),
+        expected,
+        m,
+    ));
     true
 }
 
 // Runs the cases, of which there are at most 1,000.
-fn run_all(head: &mut [u8], input: &mut [u8], expected: &mut [u8], out: &mut [u8; 65792]) {
+fn run_all(head: &mut [u8], input: &mut [u8], expected: &mut [u8], out: &mut [u8; 256]) {
     let mut left: usize = 1000;
     while 0 < left {
         if !run_case(head, input, expected, out) {
@@ -62,6 +70,6 @@ fn main() {
     let mut head = [0u8; 40];
     let mut input = room();
     let mut expected = room();
-    let mut out = output_room();
+    let mut out = [0u8; 256];
     run_all(&mut head, &mut input, &mut expected, &mut out);
 }

@@ -3,21 +3,45 @@ use Prim.Native.Nat.{ℕ, zero, suc, _+_, _-_, _*_, _/_, _%_, _<_, _≤_}
 use mathlib.Core.Path.{_≡_, refl, sym, _∙_, ap}
 use mathlib.Core.List.{List, [], _∷_}
 use mathlib.Core.Bool.{Bool, true, false, cond, _&&_, _||_}
-use native.Mathlib.Numerals.{add-one}
+use native.Mathlib.Numerals.{add-one, add-four}
 use native.Mathlib.Omega.{arith}
 use borrow.Author.Tests.{eqb-true, eq-eqb, ne-eqb}
 use lib.Dec.{eqb}
-use lib.ListN.{length, getD, drop, drop-of-length-le}
+use lib.ListN.{length, getD, drop, drop-of-length-le, length-drop}
 use lib.Seq.{drop-cons}
+use Rattle.fields.specs.Number.{le}
 use Rattle.fields.specs.Flag.{hasBit}
-use Rattle.fields.specs.Layout.{header}
-use Rattle.mates.specs.Register.{placeBy, placeIn, nameIn, sameBytes, fits, holder, mateOf}
+use Rattle.fields.specs.Layout.{header, nameIn}
+use Rattle.mates.specs.Register.{placeBy, placeIn, nameAt, sameBytes, fits, holder, mateOf}
 use Rattle.mates.specs.Table.{mixOf, digestFrom, keyIn}
-use Rattle.mates.proofs.NameLaws.{and-true, same-true}
+use Rattle.mates.proofs.NameLaws.{and-true, same-true, same-refl}
 
-pub digest-step : (h i : ℕ) (x : List ℕ) → i < length x → digestFrom (mixOf h (getD x i 0)) (drop (i + 1) x) ≡ digestFrom h (drop i x)
+-- ---- the digest, by the turns of its two loops
+next-word : (h i : ℕ) (x : List ℕ) → i + 4 ≤ length x → digestFrom (mixOf h (le 4 x i)) (drop (i + 4) x) ≡ digestFrom h (drop i x)
+unfolding digestFrom le
+next-word h i x l =
+    let h0 : i < length x = omega arith in
+    let h1 : suc i < length x = omega arith in
+    let h2 : suc (suc i) < length x = omega arith in
+    let h3 : suc (suc (suc i)) < length x = omega arith in
+    simp (add-one, add-four)
+    (rw (drop-cons x i 0 h0, drop-cons x (suc i) 0 h1, drop-cons x (suc (suc i)) 0 h2, drop-cons x (suc (suc (suc i))) 0 h3))
+
+pub digest-word : (h i v w d : ℕ) (x : List ℕ) → i + 4 ≤ length x → w ≡ le 4 x i → v ≡ mixOf h w → digestFrom h (drop i x) ≡ d → digestFrom v (drop (i + 4) x) ≡ d
+digest-word h i v w d x l ew ev e = ap (λ (z : ℕ). digestFrom z (drop (i + 4) x)) (ev ∙ ap (mixOf h) ew) ∙ next-word h i x l ∙ e
+
+last-byte : (h b : ℕ) (l : List ℕ) → length l < 3 → digestFrom (mixOf h b) l ≡ digestFrom h (b ∷ l)
 unfolding digestFrom
-digest-step h i x l = rw (add-one, drop-cons x i 0 l)
+last-byte h b [] k = refl
+last-byte h b (c ∷ []) k = refl
+last-byte h b (c ∷ d ∷ []) k = refl
+last-byte h b (c ∷ d ∷ e ∷ l) k = absurd (omega arith)
+
+next-byte : (h i : ℕ) (x : List ℕ) → i < length x → length x - i < 4 → digestFrom (mixOf h (getD x i 0)) (drop (i + 1) x) ≡ digestFrom h (drop i x)
+next-byte h i x l k = rw (add-one, drop-cons x i 0 l) (last-byte h (getD x i 0) (drop (suc i) x) (rw length-drop (omega arith)))
+
+pub digest-byte : (h i v w d : ℕ) (x : List ℕ) → i < length x → length x - i < 4 → w ≡ getD x i 0 → v ≡ mixOf h w → digestFrom h (drop i x) ≡ d → digestFrom v (drop (i + 1) x) ≡ d
+digest-byte h i v w d x l k ew ev e = ap (λ (z : ℕ). digestFrom z (drop (i + 1) x)) (ev ∙ ap (mixOf h) ew) ∙ next-byte h i x l k ∙ e
 
 pub digest-end : (h i : ℕ) (x : List ℕ) → length x ≤ i → h ≡ digestFrom h (drop i x)
 unfolding digestFrom
@@ -50,6 +74,10 @@ module _ (x y : List ℕ) (kx ky q : ℕ) (ex : kx ≡ keyIn x) (ey : ky ≡ key
   pub fits-name : (r : Bool) → kx ≡ ky / 4 * 4 + q → r ≡ sameBytes (nameIn x) (nameIn y) → r ≡ (eqb (placeIn x) q && sameBytes (nameIn x) (nameIn y))
   unfolding keyIn
   fits-name r h e = rw (eq-eqb (placeIn x) q (omega (arith, ex, ey, h, place-small x))) e
+
+-- a record has its own name
+pub own-name : (s : List ℕ) (i j : ℕ) → j ≡ i → true ≡ sameBytes (nameAt s j) (nameAt s i)
+own-name s i j e = rw e (sym (same-refl (nameAt s i)))
 
 module _ (P : ℕ → ℕ) (N : ℕ → List ℕ) (q : ℕ) (x : List ℕ) (k : ℕ) (h : 0 < k) (r : Bool) (e : r ≡ fits P N q x (k - 1)) where
   up : k ≡ suc (k - 1)

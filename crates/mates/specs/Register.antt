@@ -1,11 +1,10 @@
 -- Who is paired with whom.
-use Prim.Native.Nat.{ℕ, zero, suc, _+_, _-_}
+use Prim.Native.Nat.{ℕ, zero, suc}
 use mathlib.Core.Bool.{Bool, true, false, cond, _&&_, _||_}
 use mathlib.Core.List.{List, [], _∷_}
 use lib.Dec.{eqb}
 use Rattle.fields.specs.Flag.{hasBit}
-use Rattle.fields.specs.Layout.{header}
-use Rattle.frames.specs.Part.{part}
+use Rattle.fields.specs.Layout.{header, nameIn}
 use Rattle.frames.specs.Frame.{recordOf}
 
 -- the place that flags register: none (0) with 256 or 2048; with 64 first (1), even if 128 is set; else with 128 last (2); else none
@@ -14,10 +13,6 @@ placeBy f = cond (hasBit f 256 || hasBit f 2048) 0 (cond (hasBit f 64) 1 (cond (
 
 unfoldable pub placeIn : List ℕ → ℕ
 placeIn r = placeBy (header r .flags)
-
--- the name: its length minus 1 bytes from 32 on, none for the lengths 0 and 1
-unfoldable pub nameIn : List ℕ → List ℕ
-nameIn r = part r 32 (32 + (header r .nameLength - 1))
 
 -- of record k of the group s
 abbrev pub placeAt : List ℕ → ℕ → ℕ

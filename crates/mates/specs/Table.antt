@@ -5,16 +5,21 @@ use mathlib.Core.List.{List, [], _∷_}
 use mathlib.Core.Path.{_≡_}
 use lib.Dec.{eqb}
 use lib.ListN.{length, getD}
+use Rattle.fields.specs.Number.{le}
+use Rattle.fields.specs.Layout.{nameIn}
 use Rattle.frames.specs.Frame.{recordOf}
-use Rattle.mates.specs.Register.{placeIn, nameIn, matesOf}
+use Rattle.mates.specs.Register.{placeIn, matesOf}
 
--- a digest of a name, below 2 ^ 62
+-- a digest of a name, below 2 ^ 62: of its words of four bytes, then of the bytes that are left
 abbrev pub mixOf : ℕ → ℕ → ℕ
-mixOf h b = h % 274877906944 * 16777213 + b
+mixOf h w = (h % 137438953472 + w) * 10368889
 
 unfoldable pub digestFrom : ℕ → List ℕ → ℕ
 digestFrom h [] = h
-digestFrom h (b ∷ l) = digestFrom (mixOf h b) l
+digestFrom h (a ∷ []) = mixOf h a
+digestFrom h (a ∷ b ∷ []) = mixOf (mixOf h a) b
+digestFrom h (a ∷ b ∷ c ∷ []) = mixOf (mixOf (mixOf h a) b) c
+digestFrom h (a ∷ b ∷ c ∷ d ∷ l) = digestFrom (mixOf h (le 4 (a ∷ b ∷ c ∷ d ∷ l) 0)) l
 
 -- records of one name and place have one key
 unfoldable pub keyIn : List ℕ → ℕ
@@ -26,7 +31,7 @@ pub record Keyed (s key : List ℕ) (n : ℕ) : Type 0 where
 
 -- records are chained by their name's digest: each links to the one before it in its chain
 abbrev pub chainOf : ℕ → ℕ
-chainOf d = d / 4 % 256
+chainOf d = d / 4 / 16777216 % 256
 
 -- one more than the last, of the first n records, that is of chain h; 0: none
 unfoldable pub lastIn : List ℕ → ℕ → ℕ → ℕ

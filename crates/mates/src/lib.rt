@@ -4,10 +4,10 @@ use fields::Flags;
 ghost use mathlib.Core.Path.{_≡_};
 ghost use Prim.Native.Nat.{ℕ, _+_, _-_, _<_, _≤_};
 ghost use lib.ListN.{length, getD};
-ghost use Rattle.fields.specs.Layout.{layoutOf, header};
+ghost use Rattle.fields.specs.Layout.{layoutOf, header, nameIn};
 ghost use Rattle.fields.specs.Sound.{Sound};
 ghost use Rattle.frames.specs.Table.{Placed};
-ghost use Rattle.mates.specs.Register.{placeBy, placeIn, nameIn, placeAt, nameAt, sameBytes, fits, holder, matesOf};
+ghost use Rattle.mates.specs.Register.{placeBy, placeIn, placeAt, nameAt, sameBytes, fits, holder, matesOf};
 ghost use Rattle.mates.specs.Table.{mixOf, digestFrom, keyIn, Keyed, chainOf, Chained, Mated};
 
 // The places that a record may register for; 0 is none.
@@ -19,10 +19,10 @@ const LAST: u64 = 2;
 const CHAINS: usize = 256;
 
 // The byte as a wider number.
-fn long(x: u8) -> u64
-    ensures { λ r. ⌜ (r ≡ x) × (r < 256) ⌝ }
+fn wide(x: u8) -> u32
+    ensures { λ r. ⌜ r ≡ x ⌝ }
 {
-    x as u64
+    x as u32
 }
 
 // The place that a record with these flags registers for.
@@ -73,21 +73,25 @@ fn name_of(r: &[u8]) -> &[u8]
     &r[32..end]
 }
 
-// The digest with one more byte.
-fn mix(h: u64, b: u8) -> u64
-    ensures { λ r. ⌜ (r ≡ mixOf h b) × (r < 4611686018427387904) ⌝ }
+// The digest with one more word.
+fn mix(h: u64, w: u32) -> u64
+    ensures { λ r. ⌜ (r ≡ mixOf h w) × (r < 4611686018427387904) ⌝ }
 {
-    h % 274877906944 * 16777213 + long(b)
+    (h % 137438953472 + w as u64) * 10368889
 }
 
-// The digest of a name.
+// The digest of a name: of its words of four bytes, then of the bytes that are left.
 fn digest(x: &[u8]) -> u64
     ensures { λ r. ⌜ (r ≡ digestFrom 0 (now (x .entry))) × (r < 4611686018427387904) ⌝ }
 {
     let mut h: u64 = 0;
     let mut i = 0;
+    while 4 <= x.len() - i {
+        h = mix(h, fields::u32_at(x, i));
+        i += 4;
+    }
     while i < x.len() {
-        h = mix(h, x[i]);
+        h = mix(h, wide(x[i]));
         i += 1;
     }
     h
@@ -111,6 +115,12 @@ fn same(x: &[u8], y: &[u8]) -> bool
         return false;
     }
     let mut i = 0;
+    while 4 <= x.len() - i {
+        if fields::u32_at(x, i) != fields::u32_at(y, i) {
+            return false;
+        }
+        i += 4;
+    }
     while i < x.len() {
         if x[i] != y[i] {
             return false;
@@ -146,7 +156,7 @@ fn enter_keys(s: &[u8], begins: &[usize], n: usize, key: &mut [u64])
 fn chain_of(d: u64) -> usize
     ensures { λ r. ⌜ (r ≡ chainOf d) × (r < 256) ⌝ }
 {
-    (d / 4 % 256) as usize
+    (d / 4 / 16777216 % 256) as usize
 }
 
 // Empties every chain.
@@ -176,13 +186,17 @@ fn link(key: &[u64], n: usize, head: &mut [usize], next: &mut [usize])
     }
 }
 
-// Whether record j is of place q and of the name of record i. Only equal keys are looked at.
+// Whether record j is of place q and of the name of record i. Names are compared only where the keys
+// are equal, and no name with itself.
 fn fits_at(s: &[u8], begins: &[usize], key: &[u64], n: usize, q: u64, i: usize, j: usize) -> bool
     requires { ⌜ Placed (now s) (now begins) n × Keyed (now s) (now key) n × (i < n) × (j < n) × (q < 4) ⌝ }
     ensures { λ r. ⌜ r ≡ fits (placeAt (now (s .entry))) (nameAt (now (s .entry))) q (nameAt (now (s .entry)) i) j ⌝ }
 {
     if key[j] != key[i] / 4 * 4 + q {
         return false;
+    }
+    if j == i {
+        return true;
     }
     let start = begins[i] + 4;
     let end = begins[i + 1];

@@ -10,17 +10,12 @@ fn input_room() -> [u8; 65537]
     [0; 65537]
 }
 
-// Room for the line and the group.
-fn output_room() -> [u8; 65792]
-    ensures { λ r. ⌜ 65792 ≡ length r ⌝ }
-{
-    [0; 65792]
-}
-
 fn main() {
     let mut input = input_room();
     let n = io::read_full(0, &mut input);
-    let mut out = output_room();
-    let n = overlap_line::overlap(&mut input, n, &mut out);
-    io::write_all(1, overlap_line::written(&out, n));
+    let mut out = [0u8; 256];
+    let written = overlap_line::overlap(&mut input, n, &mut out);
+    if io::write_all(1, overlap_line::line_of(&out, written.line)) {
+        io::write_all(1, overlap_line::part(&input, 2, written.group));
+    }
 }

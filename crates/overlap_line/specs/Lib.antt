@@ -1,3 +1,4 @@
 pub mod Line
 pub mod Overlap
 pub mod Put
+pub mod Told

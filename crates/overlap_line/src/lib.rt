@@ -1,14 +1,16 @@
-// All that the program `overlap` writes, made from all that it reads: the line, and the group after it.
+// All that the program `overlap` writes, made from all that it reads: the line in a room of its own,
+// and the group where it was read.
 use group::GroupAnswer;
 use refusal::Refusal;
 use stats::CorrectionStats;
 ghost use mathlib.Core.Path.{_≡_};
 ghost use Prim.Native.Nat.{_+_, _≤_};
 ghost use mathlib.Core.List.{_++_};
-ghost use lib.ListN.{length, take};
+ghost use lib.ListN.{length, take, drop};
 ghost use Rattle.overlap_line.specs.Line.{spaced, doneText, refusalText};
-ghost use Rattle.overlap_line.specs.Overlap.{numberAt, overlapOf};
-ghost use Rattle.overlap_line.specs.Put.{Put, Begun};
+ghost use Rattle.overlap_line.specs.Overlap.{numberAt};
+ghost use Rattle.overlap_line.specs.Put.{Put};
+ghost use Rattle.overlap_line.specs.Told.{Told};
 
 // How many bytes the program reads at most.
 const MOST: usize = 65536;
@@ -57,7 +59,7 @@ fn put_done(
     g: CorrectionStats,
 ) -> usize
     requires { ⌜ 256 ≤ length (now out) ⌝ }
-    ensures { λ r. ⌜ Begun (doneText records pairs overlapping g) (now (out .exit)) r × (r ≤ 256) ⌝ }
+    ensures { λ r. ⌜ Put (now (out .entry)) 0 (doneText records pairs overlapping g) (now (out .exit)) r × (r ≤ 256) ⌝ }
 {
     let a = put_text(out, 0, b"ok");
     let b = put_number(out, a, records as u64);
@@ -70,7 +72,7 @@ fn put_done(
 // The line of a refusal, at the start of `out`.
 fn put_refusal(out: &mut [u8], r: Refusal) -> usize
     requires { ⌜ 256 ≤ length (now out) ⌝ }
-    ensures { λ n. ⌜ Begun (refusalText r) (now (out .exit)) n × (n ≤ 256) ⌝ }
+    ensures { λ n. ⌜ Put (now (out .entry)) 0 (refusalText r) (now (out .exit)) n × (n ≤ 256) ⌝ }
 {
     let a = put_text(out, 0, b"no");
     let b = put_number(out, a, r.number() as u64);
@@ -92,17 +94,26 @@ fn number_at(s: &[u8], k: usize) -> u32
     (b - 48) as u32
 }
 
-// What the program writes for this input, at the start of `out`, and how many bytes that is.
-fn answer(input: &mut [u8], out: &mut [u8]) -> usize
-    requires { ⌜ 65792 ≤ length (now out) ⌝ }
-    ensures { λ r. ⌜ Begun (overlapOf (now (input .entry))) (now (out .exit)) r × (r ≤ 65792) ⌝ }
+// What the program writes: so many bytes of the room for the line, then so many of the input from
+// byte 2 on, where the group is.
+pub struct Written {
+    pub line: usize,
+    pub group: usize,
+}
+
+// What the program writes for this input: the line stands at the start of `out`, the group in its place.
+fn answer(input: &mut [u8], out: &mut [u8]) -> Written
+    requires { ⌜ 256 ≤ length (now out) ⌝ }
+    ensures { λ r. ⌜ Told (now (input .entry)) (now (input .entry)) (now (input .exit)) (now (out .entry)) (now (out .exit)) (r .line) (r .group) ⌝ }
 {
     let n = input.len();
     if MOST < n {
-        return put_refusal(out, Refusal::Input);
+        let line = put_refusal(out, Refusal::Input);
+        return Written { line, group: 0 };
     }
     if n < 2 {
-        return put_refusal(out, Refusal::Strategy);
+        let line = put_refusal(out, Refusal::Strategy);
+        return Written { line, group: 0 };
     }
     let agreement = number_at(input, 0);
     let disagreement = number_at(input, 1);
@@ -114,23 +125,27 @@ fn answer(input: &mut [u8], out: &mut [u8]) -> usize
     );
     let a = grouped.answer;
     match a {
-        GroupAnswer::Refused(r) => put_refusal(out, r),
+        GroupAnswer::Refused(r) => {
+            let line = put_refusal(out, r);
+            Written { line, group: 0 }
+        }
         GroupAnswer::Done {
             records,
             pairs,
             overlapping,
         } => {
             let growth = grouped.stats;
-            let at = put_done(out, records, pairs, overlapping, growth);
-            put_text(out, at, &input[2..n])
+            let line = put_done(out, records, pairs, overlapping, growth);
+            let group = n - 2;
+            Written { line, group }
         }
     }
 }
 
-// What the program writes for the first n bytes of `input`, or for all where there are fewer: it
-// stands at the start of `out`, and so many bytes are answered.
-pub fn overlap(input: &mut [u8], n: usize, out: &mut [u8; 65792]) -> usize
-    ensures { λ r. ⌜ Begun (overlapOf (take n (now (input .entry)))) (now (out .exit)) r ⌝ }
+// What the program writes for the first n bytes of `input`, or for all where there are fewer. The
+// line is put at the start of `out`, an accepted group is corrected in `input`; no other byte changes.
+pub fn overlap(input: &mut [u8], n: usize, out: &mut [u8; 256]) -> Written
+    ensures { λ r. ⌜ Told (take n (now (input .entry))) (now (input .entry)) (now (input .exit)) (now (out .entry)) (now (out .exit)) (r .line) (r .group) ⌝ }
 {
     if n <= input.len() {
         return answer(&mut input[0..n], out);
@@ -138,19 +153,23 @@ pub fn overlap(input: &mut [u8], n: usize, out: &mut [u8; 65792]) -> usize
     answer(input, out)
 }
 
-// The first n bytes, or all where there are fewer.
-pub fn front(s: &[u8], n: usize) -> &[u8]
-    ensures { λ r. ⌜ now r ≡ take n (now (s .entry)) ⌝ }
+// The n bytes from `start` on, or as many of them as there are.
+pub fn part(s: &[u8], start: usize, n: usize) -> &[u8]
+    ensures { λ r. ⌜ now r ≡ take n (drop start (now (s .entry))) ⌝ }
 {
-    if n <= s.len() {
-        return &s[0..n];
+    let size = s.len();
+    if size <= start {
+        return &s[size..size];
     }
-    s
+    if n <= size - start {
+        return &s[start..start + n];
+    }
+    &s[start..size]
 }
 
-// What stands in the first n bytes of the room for output.
-pub fn written(out: &[u8; 65792], n: usize) -> &[u8]
+// The line, of n bytes, in its room.
+pub fn line_of(out: &[u8; 256], n: usize) -> &[u8]
     ensures { λ r. ⌜ now r ≡ take n (now (out .entry)) ⌝ }
 {
-    front(out, n)
+    part(out, 0, n)
 }

@@ -10,6 +10,7 @@ use borrow.Author.Tests.{ltb-false}
 use Rattle.refusal.specs.declared.Refusal.{Refusal}
 use Rattle.refusal.specs.declared.Refusal.the-variants.{RecordLong, NameAndOperations}
 use Rattle.fields.specs.Layout.{header, basesAt}
+use Rattle.fields.proofs.NameLaws.{name-part}
 use Rattle.view.specs.declared.Viewed.{Viewed}
 use Rattle.view.specs.declared.Viewed.the-variants.{Well, Refused}
 use Rattle.view.specs.View.{refusedOf, nameOf}
@@ -31,9 +32,7 @@ well-lies s e =
 -- where its name ends, and that a name length of 0 leaves none
 pub well-named : (s : List ℕ) (n : ℕ) → refusedOf s ≡ Well → n ≡ header s .nameLength → take (32 + (n - 1) - 32) (drop 32 s) ≡ nameOf s
 unfolding nameOf
-well-named s n e l =
-    let k : 32 + (n - 1) - 32 ≡ n - 1 = omega arith in
-    rw (e, k, l)
+well-named s n e l = rw e (name-part s (32 + (n - 1)) (omega arith))
 
 pub unnamed : (s : List ℕ) (n : ℕ) → refusedOf s ≡ Well → n ≡ header s .nameLength → n ≡ 0 → [] ≡ nameOf s
 unnamed s n e l z = rw z at (well-named s n e l)

@@ -1,12 +1,12 @@
 -- What the read view gives of a record s that is given alone, so that a refusal's place is 0.
-use Prim.Native.Nat.{ℕ, _-_}
+use Prim.Native.Nat.{ℕ}
 use mathlib.Core.Bool.{cond}
 use mathlib.Core.List.{List, []}
 use lib.Dec.{ltb}
 use lib.IntN.{ℤ, negsuc}
-use lib.ListN.{length, take, drop}
+use lib.ListN.{length}
 use Rattle.refusal.specs.declared.Refusal.the-variants.{RecordShort, RecordLong, NameAndOperations}
-use Rattle.fields.specs.Layout.{header, basesAt}
+use Rattle.fields.specs.Layout.{header, nameIn, basesAt}
 use Rattle.view.specs.declared.Viewed.{Viewed}
 use Rattle.view.specs.declared.Viewed.the-variants.{Well, Refused}
 
@@ -17,13 +17,13 @@ refusedOf s =
     (cond (ltb 65536 (length s)) (Refused (RecordLong 0))
     (cond (ltb (length s) (basesAt s)) (Refused (NameAndOperations 0)) Well))
 
-abbrev pub nameIn : Viewed → List ℕ → List ℕ
-nameIn Well s = take (header s .nameLength - 1) (drop 32 s)
-nameIn (Refused r) s = []
+-- a record that is refused has no name
+abbrev pub nameBy : Viewed → List ℕ → List ℕ
+nameBy Well s = nameIn s
+nameBy (Refused r) s = []
 
--- name length minus 1 bytes from 32, none for lengths 0 and 1; and none where the record is refused
 unfoldable pub nameOf : List ℕ → List ℕ
-nameOf s = nameIn (refusedOf s) s
+nameOf s = nameBy (refusedOf s) s
 
 -- the numbers before the name: a record under 32 bytes has none, and reads as one with nothing in it, placed nowhere
 abbrev pub flagsOf : List ℕ → ℕ

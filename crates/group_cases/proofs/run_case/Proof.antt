@@ -63,35 +63,26 @@ read-full-requires-3 c κs = search needs
 overlap-requires : tie.Need-overlap-requires
 overlap-requires c κs = search needs
 
-front-requires : tie.Need-front-requires
-front-requires c κs = search needs
+part-requires : tie.Need-part-requires
+part-requires c κs = search needs
 
 write-all-requires : tie.Need-write-all-requires
 write-all-requires c κs = search needs
 
-written-requires : tie.Need-written-requires
-written-requires c κs = search needs
+line-of-requires : tie.Need-line-of-requires
+line-of-requires c κs = search needs
 
-front-requires-2 : tie.Need-front-requires-2
-front-requires-2 c κs = search needs
+part-requires-2 : tie.Need-part-requires-2
+part-requires-2 c κs = search needs
 
-same-requires : tie.Need-same-requires
-same-requires c κs = search needs
+as-expected-requires : tie.Need-as-expected-requires
+as-expected-requires c κs = search needs
 
-slice-aggregate-write-all : tie.Need-slice-aggregate-write-all
-slice-aggregate-write-all c = search needs
-
-write-all-requires-2 : tie.Need-write-all-requires-2
-write-all-requires-2 c κs = search needs
-
-slice-aggregate-write-all-2 : tie.Need-slice-aggregate-write-all-2
-slice-aggregate-write-all-2 c = search needs
-
-write-all-requires-3 : tie.Need-write-all-requires-3
-write-all-requires-3 c κs = search needs
+tell-requires : tie.Need-tell-requires
+tell-requires c κs = search needs
 
 same-length-4 : tie.Need-same-length-4
-same-length-4 c = c .before .before .before .before .before .before .before .before .before .before .before .before .before .before .before .before .before .before .before .before .before .before .before .before .before .before .before .before .before .before .before .before .before .read-full .kept .1 .0
+same-length-4 c = c .before .before .before .before .before .before .before .before .before .before .before .before .before .before .before .before .before .before .before .before .before .before .before .before .before .before .before .before .before .before .before .before .read-full .kept .1 .0
 
 same-length-5 : tie.Need-same-length-5
 same-length-5 c = search needs
@@ -101,18 +92,6 @@ same-length-6 c = search needs
 
 returns-4 : tie.Need-returns-4
 returns-4 c = search needs
-
-same-length-7 : tie.Need-same-length-7
-same-length-7 c = c .before .before .before .before .before .before .before .before .before .before .before .before .before .before .before .before .before .before .before .before .before .before .before .before .before .before .before .before .before .before .before .before .before .read-full .kept .1 .0
-
-same-length-8 : tie.Need-same-length-8
-same-length-8 c = search needs
-
-same-length-9 : tie.Need-same-length-9
-same-length-9 c = search needs
-
-returns-5 : tie.Need-returns-5
-returns-5 c = search needs
 
 pub run-case-spec : {M : Type 1} → statement M
 run-case-spec =
@@ -138,20 +117,13 @@ run-case-spec =
     part-read-full-end-2
     read-full-requires-3
     overlap-requires
-    front-requires
+    part-requires
     write-all-requires
-    written-requires
-    front-requires-2
-    same-requires
-    slice-aggregate-write-all
-    write-all-requires-2
-    slice-aggregate-write-all-2
-    write-all-requires-3
+    line-of-requires
+    part-requires-2
+    as-expected-requires
+    tell-requires
     same-length-4
     same-length-5
     same-length-6
-    returns-4
-    same-length-7
-    same-length-8
-    same-length-9
-    returns-5)
+    returns-4)

@@ -1,7 +1,5 @@
 -- `mates::name_of` meets its contract. Assumes nothing.
-use mathlib.Core.Path.{ap}
-use Rattle.frames.specs.Part.{part}
-use Rattle.mates.specs.Register.{nameIn}
+use Rattle.fields.proofs.NameLaws.{name-part}
 use denote.Ref.{now}
 use borrow.Author.Needs.{needs}
 use Rattle.mates.proofs.name_of.Statement.{statement}
@@ -20,10 +18,9 @@ part-result-end : tie.Need-part-result-end
 part-result-end c = search needs
 
 returns : tie.Need-returns
-unfolding nameIn
 returns c =
     let args = c .before .before .before .args in
-    ap (part (now (args .r)) 32) (c .before .name-end .ensures .0)
+    name-part (now (args .r)) _ (c .before .name-end .ensures .0)
 
 pub name-of-spec : {M : Type 1} → statement M
 name-of-spec =

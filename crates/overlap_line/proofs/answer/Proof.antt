@@ -1,10 +1,7 @@
 -- `overlap_line::answer` meets its contract. Assumes nothing.
 use mathlib.Core.Path.{refl}
 use Prim.Native.Nat.{_-_}
-use lib.ListN.{length}
-use Rattle.overlap_line.proofs.PutLaws.{begun-then, part-most, too-long, no-digits, refused-text, done-text}
-use Rattle.frames.specs.Part.{splice}
-use native.Mathlib.Omega.{arith}
+use Rattle.overlap_line.proofs.AnswerLaws.{too-long, no-digits, refused-group, done-group}
 use denote.Ref.{now}
 use borrow.Author.Needs.{needs}
 use Rattle.overlap_line.proofs.answer.Statement.{statement}
@@ -17,9 +14,7 @@ same-length : tie.Need-same-length
 same-length c = search needs
 
 returns : tie.Need-returns
-returns c =
-    let args = c .before .before .before .before .before .before .before .args in
-    (too-long (now (args .input)) _ _ (c .before .before .before .before .if1 .taken) (c .before .before .put-refusal .ensures .0), omega (arith, c .before .before .put-refusal .ensures .1))
+returns c = too-long (now (c .before .before .before .before .before .before .before .args .input)) (now (c .before .before .before .before .before .before .before .args .out)) _ _ (c .before .before .before .before .if1 .taken) (c .before .before .put-refusal .ensures .0) (c .before .before .put-refusal .ensures .1)
 
 put-refusal-requires-2 : tie.Need-put-refusal-requires-2
 put-refusal-requires-2 c κs = search needs
@@ -28,9 +23,7 @@ same-length-2 : tie.Need-same-length-2
 same-length-2 c = search needs
 
 returns-2 : tie.Need-returns-2
-returns-2 c =
-    let args = c .before .before .before .before .before .before .before .before .args in
-    (no-digits (now (args .input)) (omega arith) _ _ (c .before .before .before .before .if2 .taken) (c .before .before .put-refusal2 .ensures .0), omega (arith, c .before .before .put-refusal2 .ensures .1))
+returns-2 c = no-digits (now (c .before .before .before .before .before .before .before .before .args .input)) (c .before .before .before .before .before .if1 .left) (now (c .before .before .before .before .before .before .before .before .args .out)) _ _ (c .before .before .before .before .if2 .taken) (c .before .before .put-refusal2 .ensures .0) (c .before .before .put-refusal2 .ensures .1)
 
 number-at-requires : tie.Need-number-at-requires
 number-at-requires c κs = search needs
@@ -62,18 +55,6 @@ enum-known-a-2 c = search needs
 put-done-requires : tie.Need-put-done-requires
 put-done-requires c κs = search needs
 
-part-put-text-start : tie.Need-part-put-text-start
-part-put-text-start c = search needs
-
-part-put-text-end : tie.Need-part-put-text-end
-part-put-text-end c = search needs
-
-put-text-requires : tie.Need-put-text-requires
-put-text-requires c κs =
-    let entry = c .before .before .before .before .before .before .before .before .before .before .before .before .before .before .before .before .before .before .before .before .before .before .before .before in
-    let args = entry .args in
-    omega (arith, c .before .before .before .before .before .put-done .ensures .1, entry .pre, c .before .before .before .before .before .put-done .kept .0, c .before .before .before .before .before .before .before .before .before .before .before .before .before .before .before .before .before .before .before .before .before .if1 .left, part-most (splice (now (args .input)) 2 (length (now (args .input))) (c .before .before .before .before .before .before .before .before .before .before .before .before .before .group .last .0)) 2 (length (now (args .input))))
-
 same-length-3 : tie.Need-same-length-3
 same-length-3 c = search needs
 
@@ -81,9 +62,7 @@ same-length-4 : tie.Need-same-length-4
 same-length-4 c = search needs
 
 returns-3 : tie.Need-returns-3
-returns-3 c =
-    let args = c .before .before .before .before .before .before .before .before .before .before .before .before .before .before .before .before .before .before .before .before .args in
-    (refused-text (now (args .input)) (c .before .before .before .before .before .before .before .before .before .before .before .before .before .before .before .before .before .if1 .left) (c .before .before .before .before .before .before .before .before .before .before .before .before .before .before .number-at .result) (c .before .before .before .before .before .before .before .before .before .before .before .before .number-at2 .result) (c .before .before .before .before .before .before .before .before .before .before .before .before .before .before .number-at .ensures) (c .before .before .before .before .before .before .before .before .before .before .before .before .number-at2 .ensures) (c .before .before .before .before .before .before .before .before .before .before .before .before .before .before .before .before .if2 .left) (c .before .before .before .before .before .before .before .before .before .before .new .result) (c .before .before .before .before .before .before .before .before .before .before .new .ensures) (c .before .before .before .before .before .before .before .before .before .group .result) (c .before .before .before .before .before .before .before .before .before .group .last .0) (c .before .before .before .before .before .before .before .before .before .group .ensures) (c .before .before .before .before .before .before .before .before .before .group .kept .0) _ refl _ (c .before .before .before .before .before .a .given .1) _ _ (c .before .before .put-refusal3 .ensures .0), omega (arith, c .before .before .put-refusal3 .ensures .1))
+returns-3 c = refused-group (now (c .before .before .before .before .before .before .before .before .before .before .before .before .before .before .before .before .before .before .before .before .args .input)) (c .before .before .before .before .before .before .before .before .before .before .before .before .before .before .before .before .before .if1 .left) (c .before .before .before .before .before .before .before .before .before .before .before .before .before .before .number-at .result) (c .before .before .before .before .before .before .before .before .before .before .before .before .number-at2 .result) (c .before .before .before .before .before .before .before .before .before .before .before .before .before .before .number-at .ensures) (c .before .before .before .before .before .before .before .before .before .before .before .before .number-at2 .ensures) (c .before .before .before .before .before .before .before .before .before .before .before .before .before .before .before .before .if2 .left) (c .before .before .before .before .before .before .before .before .before .before .new .result) (c .before .before .before .before .before .before .before .before .before .before .new .ensures) (c .before .before .before .before .before .before .before .before .before .group .result) (c .before .before .before .before .before .before .before .before .before .group .last .0) (c .before .before .before .before .before .before .before .before .before .group .ensures) (c .before .before .before .before .before .before .before .before .before .group .kept .0) _ refl _ (c .before .before .before .before .before .a .given .1) (now (c .before .before .before .before .before .before .before .before .before .before .before .before .before .before .before .before .before .before .before .before .args .out)) _ _ (c .before .before .put-refusal3 .ensures .0) (c .before .before .put-refusal3 .ensures .1)
 
 same-length-5 : tie.Need-same-length-5
 same-length-5 c = search needs
@@ -92,9 +71,7 @@ same-length-6 : tie.Need-same-length-6
 same-length-6 c = search needs
 
 returns-4 : tie.Need-returns-4
-returns-4 c =
-    let args = c .before .before .before .before .before .before .before .before .before .before .before .before .before .before .before .before .before .before .before .before .before .before .before .before .before .before .before .args in
-    (done-text (now (args .input)) (c .before .before .before .before .before .before .before .before .before .before .before .before .before .before .before .before .before .before .before .before .before .before .before .before .if1 .left) (c .before .before .before .before .before .before .before .before .before .before .before .before .before .before .before .before .before .before .before .before .before .number-at .result) (c .before .before .before .before .before .before .before .before .before .before .before .before .before .before .before .before .before .before .before .number-at2 .result) (c .before .before .before .before .before .before .before .before .before .before .before .before .before .before .before .before .before .before .before .before .before .number-at .ensures) (c .before .before .before .before .before .before .before .before .before .before .before .before .before .before .before .before .before .before .before .number-at2 .ensures) (c .before .before .before .before .before .before .before .before .before .before .before .before .before .before .before .before .before .before .before .before .before .before .before .if2 .left) (c .before .before .before .before .before .before .before .before .before .before .before .before .before .before .before .before .before .new .result) (c .before .before .before .before .before .before .before .before .before .before .before .before .before .before .before .before .before .new .ensures) (c .before .before .before .before .before .before .before .before .before .before .before .before .before .before .before .before .group .result) (c .before .before .before .before .before .before .before .before .before .before .before .before .before .before .before .before .group .last .0) (c .before .before .before .before .before .before .before .before .before .before .before .before .before .before .before .before .group .ensures) (c .before .before .before .before .before .before .before .before .before .before .before .before .before .before .before .before .group .kept .0) _ refl _ _ _ (c .before .before .before .before .before .before .before .before .before .before .before .before .a2 .given .1) _ _ (begun-then (c .before .before .before .before .before .before .before .before .put-done .ensures .0) (c .before .before .put-text .ensures)), omega (arith, c .before .before .before .before .before .before .before .before .put-done .ensures .1, c .before .before .put-text .ensures .end, c .before .before .before .before .before .before .before .before .before .before .before .before .before .before .before .before .before .before .before .before .before .before .before .before .if1 .left, part-most (splice (now (args .input)) 2 (length (now (args .input))) (c .before .before .before .before .before .before .before .before .before .before .before .before .before .before .before .before .group .last .0)) 2 (length (now (args .input)))))
+returns-4 c = done-group (now (c .before .before .before .before .before .before .before .before .before .before .before .before .before .before .before .before .before .before .before .before .before .args .input)) (c .before .before .before .before .before .before .before .before .before .before .before .before .before .before .before .before .before .before .if1 .left) (c .before .before .before .before .before .before .before .before .before .before .before .before .before .before .before .number-at .result) (c .before .before .before .before .before .before .before .before .before .before .before .before .before .number-at2 .result) (c .before .before .before .before .before .before .before .before .before .before .before .before .before .before .before .number-at .ensures) (c .before .before .before .before .before .before .before .before .before .before .before .before .before .number-at2 .ensures) (c .before .before .before .before .before .before .before .before .before .before .before .before .before .before .before .before .before .if2 .left) (c .before .before .before .before .before .before .before .before .before .before .before .new .result) (c .before .before .before .before .before .before .before .before .before .before .before .new .ensures) (c .before .before .before .before .before .before .before .before .before .before .group .result) (c .before .before .before .before .before .before .before .before .before .before .group .last .0) (c .before .before .before .before .before .before .before .before .before .before .group .ensures) (c .before .before .before .before .before .before .before .before .before .before .group .kept .0) _ refl _ _ _ (c .before .before .before .before .before .before .a2 .given .1) (now (c .before .before .before .before .before .before .before .before .before .before .before .before .before .before .before .before .before .before .before .before .before .args .out)) _ _ (c .before .before .put-done .ensures .0) (c .before .before .put-done .ensures .1)
 
 pub answer-spec : {M : Type 1} → statement M
 answer-spec =
@@ -116,9 +93,6 @@ answer-spec =
     put-refusal-requires-3
     enum-known-a-2
     put-done-requires
-    part-put-text-start
-    part-put-text-end
-    put-text-requires
     same-length-3
     same-length-4
     returns-3

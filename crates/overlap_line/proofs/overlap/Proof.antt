@@ -1,8 +1,8 @@
 -- `overlap_line::overlap` meets its contract. Assumes nothing.
-use mathlib.Core.Path.{_≡_}
 use Prim.Native.Nat.{_-_}
 use lib.Seq.{take-all}
 use native.Mathlib.Omega.{arith}
+use Rattle.overlap_line.proofs.AnswerLaws.{front-told}
 use denote.Ref.{now}
 use borrow.Author.Needs.{needs}
 use Rattle.overlap_line.proofs.overlap.Statement.{statement}
@@ -24,9 +24,7 @@ same-length : tie.Need-same-length
 same-length c = search needs
 
 returns : tie.Need-returns
-returns c =
-    let args = c .before .before .before .before .before .before .before .args in
-    let z : args .n - 0 ≡ args .n = omega arith in rw z at (c .before .before .answer .ensures .0)
+returns c = front-told (c .before .before .before .before .before .before .before .args .n) (now (c .before .before .before .before .before .before .before .args .input)) _ (now (c .before .before .before .before .before .before .before .args .out)) _ _ _ (c .before .before .answer .kept .0) (c .before .before .answer .ensures)
 
 answer-requires-2 : tie.Need-answer-requires-2
 answer-requires-2 c κs = search needs
@@ -35,9 +33,7 @@ same-length-2 : tie.Need-same-length-2
 same-length-2 c = search needs
 
 returns-2 : tie.Need-returns-2
-returns-2 c =
-    let args = c .before .before .before .before .before .before .before .args in
-    rw (take-all (args .n) (now (args .input)) (omega arith)) (c .before .before .answer2 .ensures .0)
+returns-2 c = rw (take-all (c .before .before .before .before .before .before .before .args .n) (now (c .before .before .before .before .before .before .before .args .input)) (omega arith)) (c .before .before .answer2 .ensures)
 
 pub overlap-spec : {M : Type 1} → statement M
 overlap-spec =

@@ -1,6 +1,6 @@
 -- `overlap_line::put_done` meets its contract. Assumes nothing.
 use Prim.Native.Nat.{_-_}
-use Rattle.overlap_line.proofs.PutLaws.{put-then, begun, put-number}
+use Rattle.overlap_line.proofs.PutLaws.{put-then}
 use native.Mathlib.Omega.{arith}
 use borrow.Author.Needs.{needs}
 use Rattle.overlap_line.proofs.put_done.Statement.{statement}
@@ -34,7 +34,7 @@ same-length : tie.Need-same-length
 same-length c = search needs
 
 returns : tie.Need-returns
-returns c = (begun (put-then (put-then (put-then (put-then (put-then (c .before .before .before .before .before .before .before .before .before .before .before .before .before .before .before .before .before .before .before .before .before .before .before .put-text .ensures) (c .before .before .before .before .before .before .before .before .before .before .before .before .before .before .before .before .before .before .before .put-number .ensures .0)) (c .before .before .before .before .before .before .before .before .before .before .before .before .before .before .before .put-number2 .ensures .0)) (c .before .before .before .before .before .before .before .before .before .before .before .put-number3 .ensures .0)) (c .before .before .before .before .before .before .before .put-counts .ensures .0)) (c .before .before .put-text2 .ensures)), omega (arith, c .before .before .before .before .before .before .before .before .before .before .before .before .before .before .before .before .before .before .before .before .before .before .before .put-text .ensures .end, c .before .before .before .before .before .before .before .before .before .before .before .before .before .before .before .before .before .before .before .put-number .ensures .1, c .before .before .before .before .before .before .before .before .before .before .before .before .before .before .before .put-number2 .ensures .1, c .before .before .before .before .before .before .before .before .before .before .before .put-number3 .ensures .1, c .before .before .before .before .before .before .before .put-counts .ensures .1, c .before .before .put-text2 .ensures .end))
+returns c = (put-then (put-then (put-then (put-then (put-then (c .before .before .before .before .before .before .before .before .before .before .before .before .before .before .before .before .before .before .before .before .before .before .before .put-text .ensures) (c .before .before .before .before .before .before .before .before .before .before .before .before .before .before .before .before .before .before .before .put-number .ensures .0)) (c .before .before .before .before .before .before .before .before .before .before .before .before .before .before .before .put-number2 .ensures .0)) (c .before .before .before .before .before .before .before .before .before .before .before .put-number3 .ensures .0)) (c .before .before .before .before .before .before .before .put-counts .ensures .0)) (c .before .before .put-text2 .ensures), omega (arith, c .before .before .before .before .before .before .before .before .before .before .before .before .before .before .before .before .before .before .before .before .before .before .before .put-text .ensures .end, c .before .before .before .before .before .before .before .before .before .before .before .before .before .before .before .before .before .before .before .put-number .ensures .1, c .before .before .before .before .before .before .before .before .before .before .before .before .before .before .before .put-number2 .ensures .1, c .before .before .before .before .before .before .before .before .before .before .before .put-number3 .ensures .1, c .before .before .before .before .before .before .before .put-counts .ensures .1, c .before .before .put-text2 .ensures .end))
 
 pub put-done-spec : {M : Type 1} → statement M
 put-done-spec =

@@ -1,6 +1,6 @@
 -- `overlap_line::put_refusal` meets its contract. Assumes nothing.
 use Prim.Native.Nat.{_-_}
-use Rattle.overlap_line.proofs.PutLaws.{put-then, begun, put-number}
+use Rattle.overlap_line.proofs.PutLaws.{put-then}
 use native.Mathlib.Omega.{arith}
 use borrow.Author.Needs.{needs}
 use Rattle.overlap_line.proofs.put_refusal.Statement.{statement}
@@ -40,7 +40,7 @@ same-length : tie.Need-same-length
 same-length c = search needs
 
 returns : tie.Need-returns
-returns c = (rw (c .before .before .before .before .before .before .before .before .before .before .before .before .before .number .ensures, c .before .before .before .before .before .before .before .before .place .ensures) at (begun (put-then (put-then (put-then (c .before .before .before .before .before .before .before .before .before .before .before .before .before .before .before .before .before .put-text .ensures) (c .before .before .before .before .before .before .before .before .before .before .before .before .put-number .ensures .0)) (c .before .before .before .before .before .before .before .put-number2 .ensures .0)) (c .before .before .put-text2 .ensures))), omega (arith, c .before .before .before .before .before .before .before .before .before .before .before .before .before .before .before .before .before .put-text .ensures .end, c .before .before .before .before .before .before .before .before .before .before .before .before .put-number .ensures .1, c .before .before .before .before .before .before .before .put-number2 .ensures .1, c .before .before .put-text2 .ensures .end))
+returns c = (rw (c .before .before .before .before .before .before .before .before .before .before .before .before .before .number .ensures, c .before .before .before .before .before .before .before .before .place .ensures) at (put-then (put-then (put-then (c .before .before .before .before .before .before .before .before .before .before .before .before .before .before .before .before .before .put-text .ensures) (c .before .before .before .before .before .before .before .before .before .before .before .before .put-number .ensures .0)) (c .before .before .before .before .before .before .before .put-number2 .ensures .0)) (c .before .before .put-text2 .ensures)), omega (arith, c .before .before .before .before .before .before .before .before .before .before .before .before .before .before .before .before .before .put-text .ensures .end, c .before .before .before .before .before .before .before .before .before .before .before .before .put-number .ensures .1, c .before .before .before .before .before .before .before .put-number2 .ensures .1, c .before .before .put-text2 .ensures .end))
 
 pub put-refusal-spec : {M : Type 1} → statement M
 put-refusal-spec =

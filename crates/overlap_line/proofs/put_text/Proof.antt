@@ -2,8 +2,8 @@
 use mathlib.Core.Path.{_≡_, refl, _∙_}
 use Prim.Native.Nat.{_+_, _-_, _≤_}
 use mathlib.Core.List.{_++_}
-use lib.ListN.{length, take, length-set}
-use Rattle.overlap_line.proofs.PutLaws.{put-start, put-step, put-end}
+use lib.ListN.{length, take, drop, length-set}
+use Rattle.overlap_line.proofs.PutLaws.{put-start, put-step, rest-step, put-end}
 use borrow.Author.Needs.{needs}
 use native.Mathlib.Omega.{arith}
 use denote.Ref.{now}
@@ -11,13 +11,13 @@ use Rattle.overlap_line.proofs.put_text.Statement.{statement}
 use Rattle.overlap_line.proofs.put_text.Tie as tie
 
 abbrev Inv-loop : tie.InvT-loop
-Inv-loop out₀ at text i₀ out i = (i ≤ length text) × (length out ≡ length out₀) × (take (at + i) out ≡ take at out₀ ++ take i text)
+Inv-loop out₀ at text i₀ out i = (i ≤ length text) × (length out ≡ length out₀) × (take (at + i) out ≡ take at out₀ ++ take i text) × (drop (at + i) out ≡ drop (at + i) out₀)
 
 abbrev μ-loop : tie.MeasureT-loop
 μ-loop out₀ at text i₀ out i = length text - i
 
 loop-holds : tie.Need-loop-holds Inv-loop μ-loop
-loop-holds c = (omega arith, refl, put-start (now (c .args .out)) (now (c .args .text)) (c .args .at))
+loop-holds c = (omega arith, refl, put-start (now (c .args .out)) (now (c .args .text)) (c .args .at), refl)
 
 shared-slice-read-out : tie.Need-shared-slice-read-out Inv-loop μ-loop
 shared-slice-read-out c = search needs
@@ -38,7 +38,7 @@ loop-again : tie.Need-loop-again Inv-loop μ-loop
 loop-again c =
     let args = c .before .before .before .args in
     let loop = c .before .before .loop in
-    (omega arith, length-set (loop .out) _ _ ∙ loop .inv .1, put-step (loop .out) (now (args .text)) (args .at) (loop .i) (take (args .at) (now (args .out))) (omega arith) (c .before .loop-test .taken) (loop .inv .2))
+    (omega arith, length-set (loop .out) _ _ ∙ loop .inv .1, put-step (loop .out) (now (args .text)) (args .at) (loop .i) (take (args .at) (now (args .out))) (omega arith) (c .before .loop-test .taken) (loop .inv .2), rest-step (now (args .out)) (loop .out) (args .at) (loop .i) _ (loop .inv .3))
 
 add-result : tie.Need-add-result Inv-loop μ-loop
 add-result c = omega arith
@@ -50,7 +50,7 @@ returns : tie.Need-returns Inv-loop μ-loop
 returns c =
     let args = c .before .before .args in
     let loop = c .before .loop in
-    put-end (now (args .out)) (loop .out) (now (args .text)) (args .at) (loop .i) (loop .inv .0) (omega arith) (loop .inv .2)
+    put-end (now (args .out)) (loop .out) (now (args .text)) (args .at) (loop .i) (loop .inv .0) (omega arith) (loop .inv .2) (loop .inv .3)
 
 pub put-text-spec : {M : Type 1} → statement M
 put-text-spec =
