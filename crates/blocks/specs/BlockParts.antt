@@ -53,6 +53,17 @@ unfoldable pub picked : (ℕ → ℕ) → ℕ → ℕ → ℕ → ℕ → List (
 picked d i j t zero = []
 picked d i j t (suc m) = cond (eqb (d t) 0) (picked d i j (suc t) m) ((i + t, j + t) ∷ picked d i j (suc t) m)
 
+-- the lanes from t to r are 0
+pub record Passed (d : ℕ → ℕ) (t n r : ℕ) : Type 0 where
+  pub low : t ≤ r
+  pub high : r ≤ n
+  pub zeros : (u : ℕ) → t ≤ u → u < r → d u ≡ 0
+
+-- and lane r is not, unless it is n
+pub record NextOf (d : ℕ → ℕ) (t n r : ℕ) : Type 0 where
+  pub passed : Passed d t n r
+  pub found : r < n → d r ≡ 0 → ⊥
+
 -- r of n positions go into a block; a and b bytes are left in the records from the block's qualities on
 pub record BlockSize (n a b r : ℕ) : Type 0 where
   pub within : r ≤ n

@@ -1,5 +1,6 @@
 // A block: up to 32 shared positions in a row. All lanes are computed at once, the new qualities are
 // stored in one piece, and only the lanes whose bases differ are then treated one by one.
+use crate::differing;
 use crate::lane;
 use fields::Layout;
 use fields::ReadOffset;
@@ -15,7 +16,7 @@ ghost use Rattle.stats.specs.Room.{Room};
 ghost use Rattle.positions.specs.Step.{state, job};
 ghost use Rattle.positions.specs.Treating.{steps, row};
 ghost use Rattle.blocks.specs.LaneRule.{laneOf};
-ghost use Rattle.blocks.specs.BlockParts.{LanesOf, Codes, Unpacked, masked, Gathered, picked};
+ghost use Rattle.blocks.specs.BlockParts.{LanesOf, Codes, Unpacked, masked, Gathered};
 
 // 32 lanes: their qualities, which of them differ, and how many agree, are corrected and differ.
 pub struct Lanes {
@@ -157,37 +158,6 @@ fn store_qualities(s: &mut [u8], at: usize, p: [u8; 32])
     }
 }
 
-// The lanes below n whose d is not 0, one by one.
-fn treat_differing(
-    w: Strategies,
-    first: &mut [u8],
-    second: &mut [u8],
-    y: Layout,
-    z: Layout,
-    i: ReadOffset,
-    j: ReadOffset,
-    n: usize,
-    d: [u8; 32],
-    g: CorrectionStats,
-) -> CorrectionStats
-    requires { ⌜ Lies y (length (now first)) × Lies z (length (now second)) × (i .0 + n ≤ y .count) × (j .0 + n ≤ z .count) × (n ≤ 32) × Room g (2 * length (picked (λ (u : ℕ). getD d u 0) (i .0) (j .0) 0 n)) ⌝ }
-    ensures { λ r. ⌜ state (now (first .exit)) (now (second .exit)) r ≡ steps (job w y z) (picked (λ (u : ℕ). getD d u 0) (i .0) (j .0) 0 n) (state (now (first .entry)) (now (second .entry)) g) ⌝ }
-{
-    let mut t = 0;
-    let mut h = g;
-    while t < n {
-        if d[t] == 0 {
-            t += 1;
-        } else {
-            let p = ReadOffset(i.0 + t);
-            let q = ReadOffset(j.0 + t);
-            h = positions::treat_one(w, first, second, y, z, p, q, h);
-            t += 1;
-        }
-    }
-    h
-}
-
 // A block of n positions from base i of the first record and base j of the second on, where 32
 // qualities of each record can be read. All 32 are stored: those past the end are what stands there.
 pub(crate) fn treat_block(
@@ -217,5 +187,5 @@ pub(crate) fn treat_block(
     if l.differing == 0 {
         return h;
     }
-    treat_differing(w, first, second, y, z, i, j, n, d, h)
+    differing::treat_differing(w, first, second, y, z, i, j, n, d, h)
 }

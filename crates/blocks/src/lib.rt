@@ -1,6 +1,7 @@
 // Shared positions treated many at a time: `treat_row` answers what `positions::treat_row` answers,
 // and takes a tenth of its instructions on long rows.
 mod block;
+mod differing;
 mod lane;
 mod short;
 

@@ -8,7 +8,6 @@ use native.Mathlib.Omega.{arith}
 use native.Mathlib.Nat.{zero-add, add-zero, suc-add}
 use Rattle.fields.proofs.Arith.{lt-or-le}
 use Rattle.fields.specs.Among.{Among}
-
 use Rattle.positions.specs.Treating.{row}
 use Rattle.positions.proofs.PointLaws.{Rises}
 use Rattle.merge.specs.Shared.{pairCons, pairs}

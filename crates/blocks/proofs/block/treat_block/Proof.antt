@@ -86,6 +86,7 @@ treat-differing-requires c κs =
       entry .pre .4,
       rw (after-as (args .w) (args .y) (args .z) (args .i .0) (args .j .0) (args .n) (now (args .first)) (now (args .second)) (args .g) (by-lanes-at .lanes-at .result) (by-lanes-at .lanes-at .ensures) (entry .pre .4)
           (by-wide .wide .result) (by-wide2 .wide2 .result) (by-agreements .agreements .result) (by-plus .plus .result) (by-wide .wide .ensures) (by-wide2 .wide2 .ensures) (by-agreements .agreements .ensures) (by-plus .plus .ensures)) (after-room (args .w) (args .y) (args .z) (args .i .0) (args .j .0) (args .n) (now (args .first)) (now (args .second)) (args .g) (by-lanes-at .lanes-at .result) (by-lanes-at .lanes-at .ensures) (entry .pre .4) (entry .pre .7)),
+      by-lanes-at .lanes-at .ensures .lanes .length₃,
     )
 
 returns-2 : tie.Need-returns-2
