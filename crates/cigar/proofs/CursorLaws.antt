@@ -8,10 +8,8 @@ use native.Mathlib.Omega.{arith}
 use native.Mathlib.Nat.{add-zero}
 use lib.ListN.{length, take, drop}
 use lib.Seq.{getD-take}
-use Rattle.cigar.specs.Operation.{Kind}
-use Rattle.cigar.specs.Operation.{Both, Reference, Read, Neither, Unknown}
+use Rattle.cigar.specs.Operation.{Kind, Both, Reference, Read, Neither, Unknown, kind, len, readLen, refLen, readOf, refOf, readSum, refSum, opsOf}
 use Rattle.cigar.specs.declared.Cursor.{Cursor}
-use Rattle.cigar.specs.Operation.{kind, len, readLen, refLen, readOf, refOf, readSum, refSum, opsOf}
 use Rattle.fields.specs.Number.{le}
 use Rattle.cigar.specs.Found.{opAt, offAt}
 use Rattle.cigar.specs.Passing.{cursor, runOf, runLen, restOps, curOff, readEnd, refEnd, tookKind, tookOperation, advanced, Kept, Stands}

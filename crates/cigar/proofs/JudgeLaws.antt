@@ -11,14 +11,12 @@ use borrow.Author.Tests.{lt-ltb, le-ltb, eq-eqb, ne-eqb, eqb-true, ltb-false}
 use Rattle.refusal.specs.declared.Refusal.the-variants.{ReadTotal, ReferenceEnd}
 use Rattle.fields.specs.declared.Layout.{Layout}
 use Rattle.fields.specs.Number.{le}
-use Rattle.cigar.specs.Operation.{Kind}
-use Rattle.cigar.specs.Operation.{Both, Reference, Read, Neither, Unknown}
+use Rattle.cigar.specs.Operation.{Kind, Both, Reference, Read, Neither, Unknown, kindOf, kind, len, readLen, refLen, readSum, refSum, operations, opsIn}
 use Rattle.cigar.specs.declared.Walk.{Walk}
 use Rattle.cigar.specs.declared.Walk.the-variants.{Totals, UnknownCode, ZeroLength}
 use Rattle.cigar.specs.declared.Operations.the-variants as Ops
 use Rattle.cigar.specs.declared.Span.the-variants as Spans
 use Rattle.cigar.specs.declared.Extent.{Extent}
-use Rattle.cigar.specs.Operation.{kindOf, kind, len, readLen, refLen, readSum, refSum, operations}
 use Rattle.cigar.specs.Judge.{onKind, onLength, faultOr, walkOf, judged, operationsOf, extent, spanOf}
 use Rattle.cigar.proofs.PlaceLaws.{kind-bad, ops-step, ops-short}
 use Rattle.cigar.proofs.CursorLaws.{le-take}
@@ -99,37 +97,34 @@ module _ (l : List ℕ) (from end : ℕ) (fits : end ≤ length l) where
 
 -- ---- what is judged of the walk's answer
 module _ (y : Layout) (l : List ℕ) (place : ℕ) where
-  abbrev pub opsIn : List ℕ
-  opsIn = operations (y .operations) (y .bases) l
-
-  pub judged-as : (w w′ : Walk) → w ≡ walkOf opsIn → w ≡ w′ → judged (y .count) (length opsIn) place w′ ≡ operationsOf y l place
+  pub judged-as : (w w′ : Walk) → w ≡ walkOf (opsIn y l) → w ≡ w′ → judged (y .count) (length (opsIn y l)) place w′ ≡ operationsOf y l place
   unfolding operationsOf
-  judged-as w w′ e f = ap (judged (y .count) (length opsIn) place) (sym f ∙ e)
+  judged-as w w′ e f = ap (judged (y .count) (length (opsIn y l)) place) (sym f ∙ e)
 
   and-false : (b : Bool) → b && false ≡ false
   and-false true = refl
   and-false false = refl
 
-  module _ (q r : ℕ) (w : Walk) (e : w ≡ walkOf opsIn) (f : w ≡ Totals q r) where
+  module _ (q r : ℕ) (w : Walk) (e : w ≡ walkOf (opsIn y l)) (f : w ≡ Totals q r) where
     pub judged-empty : y .count ≡ 0 → Ops.Uses r ≡ operationsOf y l place
     judged-empty h = (rw (le-ltb 0 (y .count) (omega arith)) at (judged-as w (Totals q r) e f))
 
     pub judged-none : y .bases ≤ length l → y .bases - y .operations < 4 → Ops.Uses r ≡ operationsOf y l place
     judged-none h k =
         let long = length-take-le (y .bases) l h in
-        let none : opsIn ≡ [] = ops-short (take (y .bases) l) (y .operations) (omega (arith, long)) in
-        let short : ltb 0 (length opsIn) ≡ false = ap (λ (o : List ℕ). ltb 0 (length o)) none in
+        let none : (opsIn y l) ≡ [] = ops-short (take (y .bases) l) (y .operations) (omega (arith, long)) in
+        let short : ltb 0 (length (opsIn y l)) ≡ false = ap (λ (o : List ℕ). ltb 0 (length o)) none in
         (rw (short, and-false (ltb 0 (y .count))) at (judged-as w (Totals q r) e f))
 
     pub judged-total : q ≡ y .count → Ops.Uses r ≡ operationsOf y l place
     judged-total h =
-        (rw (eq-eqb q (y .count) h, and-false (ltb 0 (y .count) && ltb 0 (length opsIn))) at (judged-as w (Totals q r) e f))
+        (rw (eq-eqb q (y .count) h, and-false (ltb 0 (y .count) && ltb 0 (length (opsIn y l)))) at (judged-as w (Totals q r) e f))
 
     pub judged-wrong : (y .count ≡ 0 → ⊥) → y .bases ≤ length l → 4 ≤ y .bases - y .operations → (q ≡ y .count → ⊥) → Ops.Refused (ReadTotal place) ≡ operationsOf y l place
     judged-wrong hc hl hn h =
         let long = length-take-le (y .bases) l hl in
         let one = ops-step (take (y .bases) l) (y .operations) (omega (arith, long)) in
-        let some : ltb 0 (length opsIn) ≡ true = lt-ltb 0 (length opsIn) (omega (arith, ap length one)) in
+        let some : ltb 0 (length (opsIn y l)) ≡ true = lt-ltb 0 (length (opsIn y l)) (omega (arith, ap length one)) in
         (rw (lt-ltb 0 (y .count) (omega arith), some, ne-eqb q (y .count) h) at (judged-as w (Totals q r) e f))
 
   -- ---- what an answer that is no refusal shows
@@ -150,35 +145,35 @@ module _ (y : Layout) (l : List ℕ) (place : ℕ) where
   good-totals (w ∷ ws) good q r e = good-totals ws good q r (through-length (len w) _ q r (through-kind (kind w) _ q r e))
 
   pub record Used (uses : ℕ) : Type 0 where
-    pub reference : uses ≡ refSum opsIn
-    pub read : 0 < y .count → readSum opsIn ≤ y .count
+    pub reference : uses ≡ refSum (opsIn y l)
+    pub read : 0 < y .count → readSum (opsIn y l) ≤ y .count
 
   pub good-uses : (uses : ℕ) → operationsOf y l place ≡ Ops.Uses uses → Used uses
   unfolding operationsOf readSum
-  good-uses uses e = go (walkOf opsIn) refl e
+  good-uses uses e = go (walkOf (opsIn y l)) refl e
     where
-      total : (q r : ℕ) → Totals (readSum opsIn) (refSum opsIn) ≡ Totals q r → (ops : List ℕ) → ops ≡ opsIn
+      total : (q r : ℕ) → Totals (readSum (opsIn y l)) (refSum (opsIn y l)) ≡ Totals q r → (ops : List ℕ) → ops ≡ (opsIn y l)
           → (s t u : Bool) → ltb 0 (y .count) ≡ s → ltb 0 (length ops) ≡ t → eqb q (y .count) ≡ u
           → cond (s && t && not u) (Ops.Refused (ReadTotal place)) (Ops.Uses r) ≡ Ops.Uses uses → Used uses
       total q r f ops eo true true true es et eu g =
-          let a : refSum opsIn ≡ r = cc in
-          let b : readSum opsIn ≡ q = cc in
+          let a : refSum (opsIn y l) ≡ r = cc in
+          let b : readSum (opsIn y l) ≡ q = cc in
           let c : r ≡ uses = cc in
           record { reference = omega arith; read = λ h. omega (arith, eqb-true q (y .count) eu) }
       total q r f ops eo true true false es et eu g = let z : _≡_ {A = ℕ} 0 1 = cc in absurd (omega arith)
       total q r f [] eo true false u es et eu g =
-          let a : refSum opsIn ≡ r = cc in
+          let a : refSum (opsIn y l) ≡ r = cc in
           let c : r ≡ uses = cc in
-          let d : readSum opsIn ≡ 0 = ap readSum (sym eo) in
+          let d : readSum (opsIn y l) ≡ 0 = ap readSum (sym eo) in
           record { reference = omega arith; read = λ h. omega arith }
       total q r f (x ∷ ops) eo true false u es et eu g = absurd (omega (arith, ltb-false 0 (suc (length ops)) et))
       total q r f ops eo false t u es et eu g =
-          let a : refSum opsIn ≡ r = cc in
+          let a : refSum (opsIn y l) ≡ r = cc in
           let c : r ≡ uses = cc in
           record { reference = omega arith; read = λ h. absurd (omega (arith, ltb-false 0 (y .count) es)) }
 
-      go : (w : Walk) → walkOf opsIn ≡ w → judged (y .count) (length opsIn) place w ≡ Ops.Uses uses → Used uses
-      go (Totals q r) f g = total q r (good-totals opsIn _ q r f) opsIn refl (ltb 0 (y .count)) (ltb 0 (length opsIn)) (eqb q (y .count)) refl refl refl g
+      go : (w : Walk) → walkOf (opsIn y l) ≡ w → judged (y .count) (length (opsIn y l)) place w ≡ Ops.Uses uses → Used uses
+      go (Totals q r) f g = total q r (good-totals (opsIn y l) _ q r f) (opsIn y l) refl (ltb 0 (y .count)) (ltb 0 (length (opsIn y l))) (eqb q (y .count)) refl refl refl g
       go UnknownCode f g = let z : _≡_ {A = ℕ} 0 1 = cc in absurd (omega arith)
       go ZeroLength f g = let z : _≡_ {A = ℕ} 0 1 = cc in absurd (omega arith)
 

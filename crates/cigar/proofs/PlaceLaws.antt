@@ -9,9 +9,7 @@ use native.Mathlib.Numerals.{add-one, add-four}
 use lib.ListN.{length, drop, length-drop, List·getD-eq-default}
 use lib.Seq.{drop-cons}
 use borrow.Author.Tests.{lt-ltb, le-ltb, le-leb, lt-leb}
-use Rattle.cigar.specs.Operation.{Kind}
-use Rattle.cigar.specs.Operation.{Both, Reference, Read, Neither, Unknown}
-use Rattle.cigar.specs.Operation.{kindOf, kind, len, readLen, refLen, readOf, refOf, opsOf}
+use Rattle.cigar.specs.Operation.{Kind, Both, Reference, Read, Neither, Unknown, kindOf, kind, len, readLen, refLen, readOf, refOf, opsOf}
 use Rattle.cigar.specs.Found.{runAt, opAt, offAt}
 use Rattle.cigar.specs.Passing.{runOf, runLen}
 use Rattle.fields.specs.Number.{le}

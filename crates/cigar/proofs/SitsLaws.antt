@@ -10,9 +10,7 @@ use lib.Dec.{ltb}
 use borrow.Author.Tests.{lt-ltb, ltb-true}
 use Rattle.fields.specs.declared.RefPos.{RefPos}
 use Rattle.fields.specs.declared.ReadOffset.{ReadOffset}
-use Rattle.cigar.specs.Operation.{Kind}
-use Rattle.cigar.specs.Operation.{Both, Reference, Read, Neither, Unknown}
-use Rattle.cigar.specs.Operation.{kind, len, readLen, refLen, readOf, refOf, readSum, refSum}
+use Rattle.cigar.specs.Operation.{Kind, Both, Reference, Read, Neither, Unknown, kind, len, readLen, refLen, readOf, refOf, readSum, refSum}
 use Rattle.cigar.specs.Place.{Sits}
 use Rattle.cigar.specs.Found.{opAt, offAt, ofBases, baseOn}
 use Rattle.fields.proofs.Arith.{lt-or-le}

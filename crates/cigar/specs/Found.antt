@@ -4,9 +4,7 @@ use mathlib.Core.List.{List, [], _∷_}
 use mathlib.Core.Option.{Option, none, some}
 use mathlib.Core.Bool.{cond}
 use lib.Dec.{ltb, leb}
-use Rattle.cigar.specs.Operation.{Kind}
-use Rattle.cigar.specs.Operation.{Both, Reference, Read, Neither, Unknown}
-use Rattle.cigar.specs.Operation.{kind, len, readLen, refLen}
+use Rattle.cigar.specs.Operation.{Kind, Both, Reference, Read, Neither, Unknown, kind, len, readLen, refLen}
 
 -- the n bases from read offset q on stand at the n positions from r on; elsewhere it is `rest`
 abbrev pub runAt : ℕ → ℕ → ℕ → ℕ → Option ℕ → Option ℕ

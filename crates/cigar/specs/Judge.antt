@@ -6,8 +6,7 @@ use lib.ListN.{length}
 use lib.Dec.{eqb, ltb}
 use Rattle.refusal.specs.declared.Refusal.the-variants.{OperationCode, OperationLength, ReadTotal, ReferenceEnd}
 use Rattle.fields.specs.declared.Layout.{Layout}
-use Rattle.cigar.specs.Operation.{Kind}
-use Rattle.cigar.specs.Operation.{Both, Reference, Read, Neither, Unknown}
+use Rattle.cigar.specs.Operation.{Kind, Both, Reference, Read, Neither, Unknown, kind, len, readSum, refSum, opsIn}
 use Rattle.cigar.specs.declared.Walk.{Walk}
 use Rattle.cigar.specs.declared.Walk.the-variants.{Totals, UnknownCode, ZeroLength}
 use Rattle.cigar.specs.declared.Operations.{Operations}
@@ -15,7 +14,6 @@ use Rattle.cigar.specs.declared.Operations.the-variants as Ops
 use Rattle.cigar.specs.declared.Extent.{Extent}
 use Rattle.cigar.specs.declared.Span.{Span}
 use Rattle.cigar.specs.declared.Span.the-variants as Spans
-use Rattle.cigar.specs.Operation.{kind, len, readSum, refSum, operations}
 
 -- at an operation its code comes before its length; then what follows it
 abbrev pub onKind : Kind → Walk → Walk
@@ -44,7 +42,7 @@ judged count n place UnknownCode = Ops.Refused (OperationCode place)
 judged count n place ZeroLength = Ops.Refused (OperationLength place)
 
 unfoldable pub operationsOf : Layout → List ℕ → ℕ → Operations
-operationsOf y s place = judged (y .count) (length (operations (y .operations) (y .bases) s)) place (walkOf (operations (y .operations) (y .bases) s))
+operationsOf y s place = judged (y .count) (length (opsIn y s)) place (walkOf (opsIn y s))
 
 -- the positions from pos on, counted from 1, of an alignment that uses so much of the reference
 abbrev pub extent : ℕ → ℕ → Extent

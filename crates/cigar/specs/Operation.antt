@@ -2,6 +2,7 @@
 use Prim.Native.Nat.{ℕ, _+_, _/_, _%_}
 use mathlib.Core.List.{List, [], _∷_}
 use lib.ListN.{getD, take, drop}
+use Rattle.fields.specs.declared.Layout.{Layout}
 use Rattle.fields.specs.Number.{le}
 
 -- what an operation uses: read and reference, one of them, or neither; no operation has a code above 8
@@ -62,3 +63,7 @@ opsOf (a ∷ b ∷ c ∷ d ∷ r) = le 4 (a ∷ b ∷ c ∷ d ∷ r) 0 ∷ opsOf
 -- the operations that stand from byte `from` to byte `end`
 abbrev pub operations : ℕ → ℕ → List ℕ → List ℕ
 operations from end s = opsOf (drop from (take end s))
+
+-- the operations of a record with this layout
+abbrev pub opsIn : Layout → List ℕ → List ℕ
+opsIn y s = operations (y .operations) (y .bases) s

@@ -5,10 +5,8 @@ use mathlib.Core.List.{List, []}
 use mathlib.Core.Option.{Option}
 use lib.ListN.{drop, length}
 use Rattle.fields.specs.Number.{le}
-use Rattle.cigar.specs.Operation.{Kind}
-use Rattle.cigar.specs.Operation.{Both, Reference, Read, Neither, Unknown}
+use Rattle.cigar.specs.Operation.{Kind, Both, Reference, Read, Neither, Unknown, kind, len, readSum, refSum, opsOf}
 use Rattle.cigar.specs.declared.Cursor.{Cursor}
-use Rattle.cigar.specs.Operation.{kind, len, readSum, refSum, opsOf}
 use Rattle.cigar.specs.Found.{runAt, offAt}
 
 -- the operations after the run at hand; `cig` are the record's bytes up to the end of its operations

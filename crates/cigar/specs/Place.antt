@@ -2,10 +2,9 @@
 use Prim.Native.Nat.{ℕ, _+_, _<_}
 use mathlib.Core.Path.{_≡_}
 use mathlib.Core.List.{List, _∷_, _++_}
-use Rattle.cigar.specs.Operation.{Both}
+use Rattle.cigar.specs.Operation.{Both, kind, len, readSum, refSum}
 use Rattle.fields.specs.declared.RefPos.{RefPos}
 use Rattle.fields.specs.declared.ReadOffset.{ReadOffset}
-use Rattle.cigar.specs.Operation.{kind, len, readSum, refSum}
 
 -- Base i of `count` sits at position p, where the alignment starts at the position `start` (the document's pos + 1): an M, = or X
 -- operation and some k below its length exist with i = read lengths before it + k and p = start + reference lengths before it + k.

@@ -21,7 +21,7 @@ use Rattle.cigar.specs.declared.Operations.{Operations}
 use Rattle.cigar.specs.declared.Operations.the-variants as Ops
 use Rattle.cigar.specs.declared.Span.{Span}
 use Rattle.cigar.specs.declared.Span.the-variants as Spans
-use Rattle.cigar.specs.Operation.{readSum, refSum}
+use Rattle.cigar.specs.Operation.{readSum, refSum, opsIn}
 use Rattle.cigar.specs.declared.Extent.{Extent}
 use Rattle.cigar.specs.Found.{offAt, ofBases, baseOn}
 use Rattle.cigar.proofs.SitsLaws.{off-within}
@@ -30,7 +30,7 @@ use Rattle.cigar.proofs.JudgeLaws.{good-uses, good-span}
 use Rattle.stats.specs.declared.CorrectionStats.{CorrectionStats}
 use Rattle.positions.specs.Step.{Job, State, state}
 use Rattle.positions.specs.Treating.{steps}
-use Rattle.merge.specs.Shared.{opsIn, baseIn, shared, merged, Walked}
+use Rattle.merge.specs.Shared.{baseIn, shared, merged, Walked}
 use Rattle.merge.proofs.PairLaws.{none-left, none-in}
 use Rattle.judgement.specs.declared.Judged.{Judged}
 use Rattle.judgement.specs.declared.Judged.the-variants as Judge

@@ -1,8 +1,8 @@
 -- Laws of the walk of two cursors.
-use Prim.Native.Nat.{ℕ, zero, suc, _+_, _-_, _*_, _≤_, _<_, min}
+use Prim.Native.Nat.{ℕ, _+_, _-_, _*_, _≤_, _<_}
 use mathlib.Core.Path.{_≡_, refl, sym, ap, ap₂, subst, _∙_}
-use mathlib.Core.List.{List, [], _∷_, _++_}
-use mathlib.Core.Option.{Option, none, some}
+use mathlib.Core.List.{List, [], _++_}
+use mathlib.Core.Option.{Option}
 use mathlib.Core.Logic.{_⊎_, inl, inr, ⊎-elim}
 use native.Mathlib.Omega.{arith}
 use lib.ListN.{length, take, drop, length-append}
@@ -11,21 +11,20 @@ use Rattle.fields.specs.declared.Layout.{Layout}
 use Rattle.fields.specs.declared.RefPos.{RefPos}
 use Rattle.fields.specs.Sound.{Lies}
 use Rattle.fields.proofs.Arith.{lt-or-le}
-use Rattle.stats.specs.declared.CorrectionStats.{CorrectionStats}
 use Rattle.stats.specs.Room.{Room}
 use Rattle.stats.proofs.CountLaws.{room-less}
 use Rattle.strategy.specs.declared.Strategies.{Strategies}
 use Rattle.cigar.specs.declared.Cursor.{Cursor}
-use Rattle.cigar.specs.Operation.{readSum, refSum, opsOf}
-use Rattle.cigar.specs.Found.{runAt, offAt, baseOn}
-use Rattle.cigar.specs.Passing.{cursor, restOps, curOff, readEnd, refEnd, advanced, Kept, Settled, Stands}
+use Rattle.cigar.specs.Operation.{readSum, refSum, opsOf, opsIn}
+use Rattle.cigar.specs.Found.{offAt, baseOn}
+use Rattle.cigar.specs.Passing.{cursor, restOps, curOff, readEnd, refEnd, advanced, Settled, Stands}
 use Rattle.cigar.proofs.PlaceLaws.{run-zero}
 use Rattle.cigar.proofs.SitsLaws.{base-off}
 use Rattle.cigar.proofs.CursorLaws.{cur-below, cur-in, cur-done, advance-same}
-use Rattle.positions.specs.Step.{job, State, state}
-use Rattle.positions.specs.Treating.{steps, step, row}
+use Rattle.positions.specs.Step.{job, State}
+use Rattle.positions.specs.Treating.{steps, row}
 use Rattle.positions.proofs.StepLaws.{steps-append, steps-front, steps-length, steps-room, row-length}
-use Rattle.merge.specs.Shared.{opsIn, baseIn, pairs, shared, merged, Walked}
+use Rattle.merge.specs.Shared.{baseIn, pairs, shared, merged, Walked}
 use Rattle.merge.proofs.PairLaws.{skip-to, none-left, take-row}
 
 -- ---- one of the two cursors: from position p on it stands for what the record has

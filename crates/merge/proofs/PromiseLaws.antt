@@ -1,29 +1,26 @@
 -- The walk over the shared positions keeps the promise.
-use Prim.Native.Nat.{ℕ, zero, suc, _+_, _-_, _*_, _/_, _≤_, _<_}
-use mathlib.Core.Path.{_≡_, refl, sym, ap, _∙_}
+use Prim.Native.Nat.{ℕ, suc, _-_, _<_}
+use mathlib.Core.Path.{_≡_, refl, _∙_}
 use mathlib.Core.List.{List, [], _∷_}
-use mathlib.Core.Option.{Option, none, some}
-use mathlib.Core.Logic.{_⊎_, inl, inr, ⊎-elim}
+use mathlib.Core.Option.{some}
 use native.Mathlib.Omega.{arith}
-use lib.ListN.{length, getD}
+use lib.ListN.{getD}
 use Rattle.fields.specs.declared.Layout.{Layout}
 use Rattle.fields.specs.declared.RefPos.{RefPos}
 use Rattle.fields.specs.declared.ReadOffset.{ReadOffset}
-use Rattle.fields.specs.Sound.{Lies}
 use Rattle.strategy.specs.declared.Strategies.{Strategies}
 use Rattle.bases.proofs.BaseLaws.{put-outside}
-use Rattle.cigar.specs.Operation.{refSum}
-use Rattle.cigar.specs.Place.{Sits}
-use Rattle.cigar.specs.Found.{offAt, baseOn}
+use Rattle.cigar.specs.Operation.{refSum, opsIn}
+use Rattle.cigar.specs.Found.{offAt}
 use Rattle.cigar.proofs.SitsLaws.{onRef, inRead, sits-found, sits-off, found-sits, bases-of, off-mono, off-within}
 use Rattle.fields.specs.Among.{Among}
-use Rattle.positions.specs.Step.{job, State, Rising}
+use Rattle.positions.specs.Step.{job, State}
 use Rattle.positions.specs.Treating.{step, steps}
 use Rattle.positions.proofs.StepLaws.{steps-length}
 use Rattle.positions.proofs.PointLaws.{Rises, Both, kept₁, kept₂, hit, counted, both-step, rises-rising}
-use Rattle.merge.specs.Shared.{opsIn, baseIn, pairs, shared, merged}
-use Rattle.merge.specs.Promise.{Share, Names, Outside, Stays, Corrected}
-use Rattle.merge.proofs.PairLaws.{Meets, pairs-meet, meet-pairs, pairs-rise}
+use Rattle.merge.specs.Shared.{baseIn, pairs, shared, merged}
+use Rattle.merge.specs.Promise.{Share, Names, Outside, Corrected}
+use Rattle.merge.proofs.PairLaws.{pairs-meet, meet-pairs, pairs-rise}
 
 -- ---- what all positions leave outside bases and qualities
 module _ (v : Strategies) (y z : Layout) where

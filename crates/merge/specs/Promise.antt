@@ -1,5 +1,5 @@
 -- What a reader is promised of the shared positions of two records: `s` before, `u` after.
-use Prim.Native.Nat.{ℕ, _+_, _*_, _/_, _≤_, _<_}
+use Prim.Native.Nat.{ℕ, _+_, _/_, _≤_, _<_}
 use mathlib.Core.Path.{_≡_}
 use mathlib.Core.List.{List}
 use mathlib.Core.Logic.{_⊎_}
@@ -12,7 +12,8 @@ use Rattle.cigar.specs.Place.{Sits}
 use Rattle.bases.specs.Base.{baseAt, qualityAt}
 use Rattle.fields.specs.Among.{Among}
 use Rattle.positions.specs.Step.{State, Job, Rising, Becomes, growths}
-use Rattle.merge.specs.Shared.{opsIn}
+use Rattle.cigar.specs.Operation.{opsIn}
+
 
 -- base i of the first record and base j of the second sit at one position
 pub record Share (y z : Layout) (p q : RefPos) (s : State) (i j : ReadOffset) : Type 0 where

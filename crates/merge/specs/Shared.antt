@@ -4,14 +4,10 @@ use mathlib.Core.List.{List, [], _∷_}
 use mathlib.Core.Option.{Option, none, some}
 use Rattle.fields.specs.declared.Layout.{Layout}
 use Rattle.fields.specs.declared.RefPos.{RefPos}
-use Rattle.cigar.specs.Operation.{operations, readSum, refSum}
+use Rattle.cigar.specs.Operation.{opsIn, readSum, refSum}
 use Rattle.cigar.specs.Found.{baseOn}
 use Rattle.positions.specs.Step.{Job, State}
 use Rattle.positions.specs.Treating.{steps}
-
--- the operations of a record
-abbrev pub opsIn : Layout → List ℕ → List ℕ
-opsIn y s = operations (y .operations) (y .bases) s
 
 -- the offset of a record's base that sits at a position, if there is one
 abbrev pub baseIn : Layout → List ℕ → RefPos → ℕ → Option ℕ

@@ -1,7 +1,6 @@
 -- `judgement::span_of` meets its contract. Assumes nothing.
 use mathlib.Core.Path.{refl, _∙_}
 use Rattle.judgement.proofs.JudgeLaws.{uses-refused, span-as}
-use mathlib.Core.Path.{_∙_}
 use denote.Ref.{now}
 use borrow.Author.Needs.{needs}
 use Rattle.judgement.proofs.span_of.Statement.{statement}
