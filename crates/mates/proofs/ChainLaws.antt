@@ -1,13 +1,12 @@
 -- Passing along a chain misses no record that fits.
-use Prim.Native.Nat.{ℕ, zero, suc, _+_, _-_, _*_, _/_, _%_, _<_, _≤_}
+use Prim.Native.Nat.{ℕ, zero, suc, _+_, _-_, _/_, _%_, _<_, _≤_}
 use mathlib.Core.Path.{_≡_, refl, sym, _∙_, ap, ap₂}
-use mathlib.Core.List.{List, [], _∷_}
+use mathlib.Core.List.{List}
 use mathlib.Core.Bool.{Bool, true, false, cond, _&&_}
-use mathlib.Core.Logic.{_⊎_, inl, inr, ⊎-elim}
 use native.Mathlib.Numerals.{add-one}
 use native.Mathlib.Nat.{lt-irrefl}
 use native.Mathlib.Omega.{arith}
-use borrow.Author.Tests.{eqb-true, eqb-false, eq-eqb, ne-eqb}
+use borrow.Author.Tests.{eqb-true, eqb-false}
 use borrow.Author.Count.{below-more, below-none}
 use lib.Dec.{eqb}
 use lib.ListN.{length, getD, set, length-set}
@@ -64,27 +63,58 @@ module _ (s key : List ℕ) (n : ℕ) (u : Keyed s key n) (q i : ℕ) (below : i
       go up true e = refl
       go up false e = up ∙ ap (λ (t : Bool). cond t (suc m) (holder (placeAt s) (nameAt s) q (nameAt s i) m)) (sym (not-it (fits (placeAt s) (nameAt s) q (nameAt s i) m) refl e))
 
--- the first k records are linked
-pub linked-start : (key head next : List ℕ) → 256 ≤ length head → 256 ≤ length next → ((h : ℕ) → h < 256 → getD head h 0 ≡ 0) → Chained key head next 0
-unfolding lastIn
-linked-start key head next l m z = record { wide = l; long = m; heads = z; links = below-none _ }
+-- a list with one entry changed
+set-at : (l : List ℕ) (h j v : ℕ) → h < length l → getD (set l h v) j 0 ≡ cond (eqb h j) v (getD l j 0)
+set-at l h j v b = go (eqb h j) refl
+  where
+    go : (t : Bool) → eqb h j ≡ t → getD (set l h v) j 0 ≡ cond t v (getD l j 0)
+    go true f = ap (λ (w : ℕ). getD (set l h v) w 0) (sym (eqb-true h j f)) ∙ getD-set-same l h v 0 b
+    go false f = getD-set-other l h j v 0 (λ w. eqb-false h j f (sym w))
 
-pub linked-next : (key head next : List ℕ) (k h : ℕ) → Chained key head next k → k < 256 → h ≡ chainOf (getD key k 0) → h < 256 → Chained key (set head h (k + 1)) (set next k (getD head h 0)) (k + 1)
-unfolding lastIn
-linked-next key head next k h c r e b = record {
+-- the chains of the first k records are empty
+pub record Cleared (key head : List ℕ) (k : ℕ) : Type 0 where
+  pub wide : 256 ≤ length head
+  pub empty : (j : ℕ) → j < k → getD head (chainOf (getD key j 0)) 0 ≡ 0
+
+pub cleared-start : (key head : List ℕ) → 256 ≤ length head → Cleared key head 0
+cleared-start key head l = record { wide = l; empty = below-none _ }
+
+pub cleared-next : (key head : List ℕ) (k h : ℕ) → Cleared key head k → h ≡ chainOf (getD key k 0) → h < 256 → Cleared key (set head h 0) (k + 1)
+cleared-next key head k h c e b = record {
   wide = rw length-set (c .wide);
-  long = rw length-set (c .long);
-  heads = λ j l. rw add-one (at j l (eqb (chainOf (getD key k 0)) j) refl);
-  links = below-more _ k
-      (λ j l. getD-set-other next k j (getD head h 0) 0 (λ w. lt-irrefl k (rw w at l)) ∙ c .links j l)
-      (getD-set-same next k (getD head h 0) 0 (omega (arith, c .long)) ∙ c .heads h b ∙ ap (λ (z : ℕ). lastIn key z k) e);
+  empty = below-more _ k
+      (λ j l. set-at head h (chainOf (getD key j 0)) 0 (omega (arith, c .wide)) ∙ still (eqb h (chainOf (getD key j 0))) _ (c .empty j l))
+      (ap (λ (z : ℕ). getD (set head h 0) z 0) (sym e) ∙ getD-set-same head h 0 0 (omega (arith, c .wide)));
 }
   where
-    at : (j : ℕ) → j < 256 → (t : Bool) → eqb (chainOf (getD key k 0)) j ≡ t → getD (set head h (suc k)) j 0 ≡ cond t (suc k) (lastIn key j k)
-    at j l true f =
-        let z : j ≡ h = sym (eqb-true _ _ f) ∙ sym e in
-        ap (λ (w : ℕ). getD (set head h (suc k)) w 0) z ∙ getD-set-same head h (suc k) 0 (omega (arith, c .wide))
-    at j l false f = getD-set-other head h j (suc k) 0 (λ w. eqb-false _ _ f (sym e ∙ sym w)) ∙ c .heads j l
+    still : (t : Bool) (v : ℕ) → v ≡ 0 → cond t 0 v ≡ 0
+    still true v z = refl
+    still false v z = z
+
+-- of n records the first k are linked
+pub record Linked (key head next : List ℕ) (n k : ℕ) : Type 0 where
+  pub wide : 256 ≤ length head
+  pub long : 256 ≤ length next
+  pub heads : (j : ℕ) → j < n → getD head (chainOf (getD key j 0)) 0 ≡ lastIn key (chainOf (getD key j 0)) k
+  pub links : (j : ℕ) → j < k → getD next j 0 ≡ lastIn key (chainOf (getD key j 0)) j
+
+pub linked-start : (key head next : List ℕ) (n : ℕ) → 256 ≤ length head → 256 ≤ length next → ((j : ℕ) → j < n → getD head (chainOf (getD key j 0)) 0 ≡ 0) → Linked key head next n 0
+unfolding lastIn
+linked-start key head next n l m z = record { wide = l; long = m; heads = z; links = below-none _ }
+
+pub linked-next : (key head next : List ℕ) (n k h : ℕ) → Linked key head next n k → k < n → k < 256 → h ≡ chainOf (getD key k 0) → h < 256 → Linked key (set head h (k + 1)) (set next k (getD head h 0)) n (k + 1)
+unfolding lastIn
+linked-next key head next n k h c l r e b = record {
+  wide = rw length-set (c .wide);
+  long = rw length-set (c .long);
+  heads = λ j m. rw add-one (set-at head h (chainOf (getD key j 0)) (suc k) (omega (arith, c .wide)) ∙ ap₂ (λ (z v : ℕ). cond (eqb z (chainOf (getD key j 0))) (suc k) v) e (c .heads j m));
+  links = below-more _ k
+      (λ j m. getD-set-other next k j (getD head h 0) 0 (λ w. lt-irrefl k (rw w at m)) ∙ c .links j m)
+      (getD-set-same next k (getD head h 0) 0 (omega (arith, c .long)) ∙ ap (λ (z : ℕ). getD head z 0) e ∙ c .heads k l);
+}
+
+pub linked-all : (key head next : List ℕ) (n k : ℕ) → Linked key head next n k → k ≡ n → Chained key head next n
+linked-all key head next n k c e = let d = rw e at c in record { wide = d .wide; long = d .long; heads = d .heads; links = d .links }
 
 pub record Walking (s key : List ℕ) (n q i c : ℕ) : Type 0 where
   pub low : c ≤ n
@@ -92,11 +122,11 @@ pub record Walking (s key : List ℕ) (n q i c : ℕ) : Type 0 where
   pub left : holder (placeAt s) (nameAt s) q (nameAt s i) c ≡ holder (placeAt s) (nameAt s) q (nameAt s i) n
 
 module _ (s key : List ℕ) (n : ℕ) (u : Keyed s key n) (q i : ℕ) (below : i < n) where
-  pub walking-start : (c h : ℕ) → h ≡ chainOf (getD key i 0) → c ≡ lastIn key h n → Walking s key n q i c
-  walking-start c h eh e = record {
-    low = omega (arith, e, last-le key h n);
-    chain = λ j f. last-of key h n j (sym e ∙ f) ∙ eh;
-    left = ap (holder (placeAt s) (nameAt s) q (nameAt s i)) (e ∙ ap (λ (z : ℕ). lastIn key z n) eh) ∙ passed s key n u q i below n (omega arith);
+  pub walking-start : (c : ℕ) → c ≡ lastIn key (chainOf (getD key i 0)) n → Walking s key n q i c
+  walking-start c e = record {
+    low = omega (arith, e, last-le key (chainOf (getD key i 0)) n);
+    chain = λ j f. last-of key (chainOf (getD key i 0)) n j (sym e ∙ f);
+    left = ap (holder (placeAt s) (nameAt s) q (nameAt s i)) e ∙ passed s key n u q i below n (omega arith);
   }
 
   module _ (c : ℕ) (w : Walking s key n q i c) (some : c ≡ 0 → ⊥) where

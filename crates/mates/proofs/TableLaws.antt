@@ -27,10 +27,6 @@ entered-next f t k v h l e = record {
       (getD-set-same t k v 0 (omega (arith, h .wide)) ∙ e);
 }
 
--- an empty table
-abbrev pub none : ℕ → ℕ
-none k = 0
-
 abbrev pub keysOf : List ℕ → ℕ → ℕ
 keysOf s k = keyIn (recordOf s k)
 

@@ -38,10 +38,11 @@ unfoldable pub lastIn : List ℕ → ℕ → ℕ → ℕ
 lastIn key h zero = 0
 lastIn key h (suc n) = cond (eqb (chainOf (getD key n 0)) h) (suc n) (lastIn key h n)
 
+-- the heads are of the chains that the records are in; of other chains nothing is said
 pub record Chained (key head next : List ℕ) (n : ℕ) : Type 0 where
   pub wide : 256 ≤ length head
   pub long : 256 ≤ length next
-  pub heads : (h : ℕ) → h < 256 → getD head h 0 ≡ lastIn key h n
+  pub heads : (k : ℕ) → k < n → getD head (chainOf (getD key k 0)) 0 ≡ lastIn key (chainOf (getD key k 0)) n
   pub links : (k : ℕ) → k < n → getD next k 0 ≡ lastIn key (chainOf (getD key k 0)) k
 
 -- one more than the index of each record's mate; 0: none

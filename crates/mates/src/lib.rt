@@ -15,9 +15,6 @@ const FIRST: u64 = 1;
 
 const LAST: u64 = 2;
 
-// How many chains there are.
-const CHAINS: usize = 256;
-
 // The byte as a wider number.
 fn wide(x: u8) -> u32
     ensures { λ r. ⌜ r ≡ x ⌝ }
@@ -159,15 +156,16 @@ fn chain_of(d: u64) -> usize
     (d / 4 / 16777216 % 256) as usize
 }
 
-// Empties every chain.
-fn clear(head: &mut [usize])
-    requires { ⌜ 256 ≤ length (now head) ⌝ }
-    ensures { λ _. ⌜ ((h : ℕ) → h < 256 → getD (now (head .exit)) h 0 ≡ 0) ⌝ }
+// Empties the chains that the records are in.
+fn clear(key: &[u64], n: usize, head: &mut [usize])
+    requires { ⌜ (n ≤ 256) × (256 ≤ length (now key)) × (256 ≤ length (now head)) ⌝ }
+    ensures { λ _. ⌜ ((k : ℕ) → k < n → getD (now (head .exit)) (chainOf (getD (now (key .entry)) k 0)) 0 ≡ 0) ⌝ }
 {
-    let mut h: usize = 0;
-    while h < CHAINS {
+    let mut k: usize = 0;
+    while k < n {
+        let h = chain_of(key[k]);
         head[h] = 0;
-        h += 1;
+        k += 1;
     }
 }
 
@@ -176,7 +174,7 @@ fn link(key: &[u64], n: usize, head: &mut [usize], next: &mut [usize])
     requires { ⌜ (n ≤ 256) × (256 ≤ length (now key)) × (256 ≤ length (now head)) × (256 ≤ length (now next)) ⌝ }
     ensures { λ _. ⌜ Chained (now (key .entry)) (now (head .exit)) (now (next .exit)) n ⌝ }
 {
-    clear(head);
+    clear(key, n, head);
     let mut k: usize = 0;
     while k < n {
         let h = chain_of(key[k]);

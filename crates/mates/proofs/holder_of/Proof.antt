@@ -1,6 +1,6 @@
 -- `mates::holder_of` meets its contract. Assumes nothing.
-use mathlib.Core.Path.{_≡_, _∙_}
-use Prim.Native.Nat.{_-_}
+use mathlib.Core.Path.{_≡_, ap, _∙_}
+use Prim.Native.Nat.{ℕ, _-_}
 use lib.ListN.{getD}
 use Rattle.mates.specs.Register.{placeAt, nameAt, holder}
 use Rattle.mates.specs.Table.{chainOf}
@@ -43,7 +43,7 @@ loop-holds : tie.Need-loop-holds Inv-loop μ-loop
 loop-holds c =
     let entry = c .before .before .before .before .before .before .before .before in
     let args = entry .args in
-    walking-start (now (args .s)) (now (args .key)) (args .n) (entry .pre .1) (args .q) (args .i) (entry .pre .3) _ (c .before .chain-of .result) (c .before .chain-of .ensures .0) (entry .pre .2 .heads (c .before .chain-of .result) (c .before .chain-of .ensures .1))
+    walking-start (now (args .s)) (now (args .key)) (args .n) (entry .pre .1) (args .q) (args .i) (entry .pre .3) _ (ap (λ (z : ℕ). getD (now (args .head)) z 0) (c .before .chain-of .ensures .0) ∙ entry .pre .2 .heads (args .i) (entry .pre .3))
 
 sub-j : tie.Need-sub-j Inv-loop μ-loop
 sub-j c = search needs

@@ -2,8 +2,7 @@
 use mathlib.Core.Path.{_≡_, refl, _∙_}
 use Prim.Native.Nat.{_-_, _≤_}
 use lib.ListN.{length, length-set}
-use Rattle.mates.specs.Table.{Chained}
-use Rattle.mates.proofs.ChainLaws.{linked-start, linked-next}
+use Rattle.mates.proofs.ChainLaws.{Linked, linked-start, linked-next, linked-all}
 use borrow.Author.Needs.{needs}
 use native.Mathlib.Omega.{arith}
 use denote.Ref.{now}
@@ -11,7 +10,7 @@ use Rattle.mates.proofs.link.Statement.{statement}
 use Rattle.mates.proofs.link.Tie as tie
 
 abbrev Inv-loop : tie.InvT-loop
-Inv-loop key n head₀ next₀ k₀ head next k = (k ≤ n) × Chained key head next k × (length head ≡ length head₀) × (length next ≡ length next₀)
+Inv-loop key n head₀ next₀ k₀ head next k = (k ≤ n) × Linked key head next n k × (length head ≡ length head₀) × (length next ≡ length next₀)
 
 abbrev μ-loop : tie.MeasureT-loop
 μ-loop key n head₀ next₀ k₀ head next k = n - k
@@ -23,7 +22,7 @@ loop-holds : tie.Need-loop-holds Inv-loop μ-loop
 loop-holds c =
     let entry = c .before .before .before .before .before .before .before in
     let args = entry .args in
-    (search needs, linked-start (now (args .key)) _ (now (args .next)) (omega (arith, c .before .before .clear .kept .0)) (entry .pre .3) (c .before .before .clear .ensures), refl, refl)
+    (search needs, linked-start (now (args .key)) _ (now (args .next)) (args .n) (omega (arith, c .before .before .clear .kept .1 .1 .0)) (entry .pre .3) (c .before .before .clear .ensures), refl, refl)
 
 mul-chain-of : tie.Need-mul-chain-of Inv-loop μ-loop
 mul-chain-of c = omega arith
@@ -62,7 +61,7 @@ loop-again : tie.Need-loop-again Inv-loop μ-loop
 loop-again c =
     let args = c .before .before .before .before .before .before .before .before .before .before .before .before .args in
     let loop = c .before .before .before .before .loop in
-    (omega arith, linked-next (now (args .key)) (loop .head) (loop .next) (loop .k) (c .before .chain-of .result) (loop .inv .1) (omega arith) (c .before .chain-of .ensures .0) (c .before .chain-of .ensures .1), length-set (loop .head) _ _ ∙ loop .inv .2, length-set (loop .next) _ _ ∙ loop .inv .3)
+    (omega arith, linked-next (now (args .key)) (loop .head) (loop .next) (args .n) (loop .k) (c .before .chain-of .result) (loop .inv .1) (omega arith) (omega arith) (c .before .chain-of .ensures .0) (c .before .chain-of .ensures .1), length-set (loop .head) _ _ ∙ loop .inv .2, length-set (loop .next) _ _ ∙ loop .inv .3)
 
 same-length : tie.Need-same-length Inv-loop μ-loop
 same-length c = search needs
@@ -74,7 +73,7 @@ returns : tie.Need-returns Inv-loop μ-loop
 returns c =
     let args = c .before .before .before .before .before .before .before .before .before .args in
     let loop = c .before .loop in
-    let e : loop .k ≡ args .n = omega arith in rw e at (loop .inv .1)
+    linked-all (now (args .key)) (loop .head) (loop .next) (args .n) (loop .k) (loop .inv .1) (omega arith)
 
 pub link-spec : {M : Type 1} → statement M
 link-spec =
