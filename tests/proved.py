@@ -1,6 +1,7 @@
 #!/usr/bin/env python3
 """Checks that docs/PROVED.md is true to the tree: every definition, function, theorem, edit and file
-that it names exists, and the line counts (imports, comments and blank lines left out) are right."""
+that it names exists, and the line counts (imports, comments and blank lines left out) and their sums are
+right."""
 import os, re, sys
 
 os.chdir(os.path.join(os.path.dirname(os.path.abspath(__file__)), '..'))
@@ -49,6 +50,17 @@ for path, lines in re.findall(r'\| `([\w/]+\.antt)` \| (\d+) \|', page):
     said = sum(1 for line in text.split('\n') if line.strip() and not re.match(r'use | *--', line))
     if said != int(lines):
         faults.append(f'{path}: {lines} lines on the page, {said} in the tree')
+
+for said, table in re.findall(r'(?m)^For .*?, (\d+) lines.*:\n\n((?:\|.*\n)+)', page):
+    checked += 1
+    total = sum(int(n) for n in re.findall(r'\.antt` \| (\d+) \|', table))
+    if total != int(said):
+        faults.append(f'{said} lines on the page, {total} in its table')
+
+for path in re.findall(r'`((?:tests|scripts|docs|bench|crates|include)/[\w./-]+)`', page):
+    checked += 1
+    if not os.path.exists(path):
+        faults.append(f'{path}: no such file')
 
 for crate in sorted(os.listdir('crates')):
     for edit in sorted(os.listdir(f'crates/{crate}/must-fail')) if os.path.isdir(f'crates/{crate}/must-fail') else []:

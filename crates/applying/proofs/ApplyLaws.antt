@@ -27,8 +27,8 @@ use Rattle.mates.proofs.OnceLaws.{pairs-once, pairs-half}
 use Rattle.verdicts.specs.Judged.{pairAt}
 use Rattle.verdicts.proofs.JudgeLaws.{pairs-turn, pairs-start, pairs-end}
 use Rattle.applying.specs.declared.Applied.{Applied}
-use Rattle.applying.specs.Applied.{written, grown, overlapOf, overlapsIn, AppliedTo}
-use Rattle.applying.specs.Within.{startIn, endIn, callIn, Given, Within, Put}
+use Rattle.applying.specs.Applied.{written, grown, overlapCount, overlapsIn, AppliedTo}
+use Rattle.applying.specs.Within.{startIn, endIn, callIn, Given, Within, BothPut}
 use Rattle.applying.proofs.CallLaws.{call-most}
 use Rattle.applying.proofs.WrittenLaws.{stepped, step-size, step-other, first-in, second-in, once-rest, first-there, second-there, later-there, first-not-later, second-not-later}
 
@@ -64,7 +64,7 @@ applying-start w s g n few r =
       fewer = omega arith;
     })
 
-overlap-one : (a : Answer) → overlapOf a ≤ 1
+overlap-one : (a : Answer) → overlapCount a ≤ 1
 overlap-one NoOverlap = omega arith
 overlap-one Overlap = omega arith
 overlap-one (Refused r) = omega arith
@@ -128,7 +128,7 @@ module _ (w : Strategies) (s₀ : List ℕ) (g₀ : CorrectionStats) (n i : ℕ)
         };
       }
 
-      module _ (s′ : List ℕ) (r : Called) (put : Put w s (startIn begins i) (endIn begins i) (startIn begins (m - 1)) (endIn begins (m - 1)) s′ r) where
+      module _ (s′ : List ℕ) (r : Called) (put : BothPut w s (startIn begins i) (endIn begins i) (startIn begins (m - 1)) (endIn begins (m - 1)) s′ r) where
         call-is : callIn w s (startIn begins i) (endIn begins i) (startIn begins (m - 1)) (endIn begins (m - 1)) ≡ pairAt w s₀ i (m - 1)
         call-is = ap₂ (λ (x y : List ℕ). pairOf w (state x y zeroed)) part₁ part₂
 
@@ -144,12 +144,12 @@ module _ (w : Strategies) (s₀ : List ℕ) (g₀ : CorrectionStats) (n i : ℕ)
         bytes-is : s′ ≡ stepped w s₀ s (i, m - 1)
         bytes-is = rw (call-is, start₁, end₁, start₂, end₂) at (put .bytes)
 
-        pub applying-next : (o′ : ℕ) → o′ ≡ overlapOf (r .answer) → (g′ : CorrectionStats) → g′ ≡ plus g (r .stats) → Applying w s₀ g₀ n l s′ g′ (p + 1) (o + o′)
+        pub applying-next : (o′ : ℕ) → o′ ≡ overlapCount (r .answer) → (g′ : CorrectionStats) → g′ ≡ plus g (r .stats) → Applying w s₀ g₀ n l s′ g′ (p + 1) (o + o′)
         unfolding written grown overlapsIn
         applying-next o′ eo g′ eg =
             let v = now-at in
             let j = m - 1 in
-            let ans : o′ ≡ overlapOf (pairAt w s₀ i j .answer) = eo ∙ ap overlapOf (put .answer ∙ ap (λ (x : Outcome). x .answer) call-is) in
+            let ans : o′ ≡ overlapCount (pairAt w s₀ i j .answer) = eo ∙ ap overlapCount (put .answer ∙ ap (λ (x : Outcome). x .answer) call-is) in
             let sum : g′ ≡ plus g (pairAt w s₀ i j .after .stats) = eg ∙ ap (plus g) stats-is in
             record {
               size = ap length bytes-is ∙ step-size w s₀ n (t .fit) s (a .size) (i, j) below mate-below;

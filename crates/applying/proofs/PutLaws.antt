@@ -13,7 +13,7 @@ use Rattle.pair.specs.Pair.{Outcome, outcome, pairOf}
 use Rattle.frames.specs.Part.{part, splice}
 use Rattle.frames.proofs.PartLaws.{length-part, part-put}
 use Rattle.stats.specs.declared.CorrectionStats.{CorrectionStats}
-use Rattle.applying.specs.Within.{callIn, Within, Put}
+use Rattle.applying.specs.Within.{callIn, Within, BothPut}
 
 module _ (w : Strategies) (s room : List ℕ) (a e b h : ℕ) (k : Within s (length room) a e b h) (c : List ℕ) (copied : c ≡ part s b h) where
   size : length c ≡ h - b - 0
@@ -33,7 +33,7 @@ module _ (w : Strategies) (s room : List ℕ) (a e b h : ℕ) (k : Within s (len
       → outcome (r .answer) (state f v (r .stats)) ≡ pairOf w (state (part s a e) (part (splice room 0 (h - b) c) 0 (h - b)) z)
       → length v ≡ length (part (splice room 0 (h - b) c) 0 (h - b))
       → d ≡ part (splice (splice room 0 (h - b) c) 0 (h - b) v) 0 (h - b)
-      → Put w s a e b h (splice (splice s a e f) b h d) r
+      → BothPut w s a e b h (splice (splice s a e f) b h d) r
   put-as r z f v d ez q lv ed =
       let o : outcome (r .answer) (state f v (r .stats)) ≡ callIn w s a e b h = q ∙ ap₂ (λ (x : List ℕ) (y : CorrectionStats). pairOf w (state (part s a e) x y)) lent-is ez in
       let i : h - b ≤ length lent = omega (arith, lent-size, k .room) in

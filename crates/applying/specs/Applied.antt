@@ -23,15 +23,15 @@ unfoldable pub grown : Strategies → List ℕ → List (ℕ × ℕ) → Correct
 grown w s [] g = g
 grown w s (e ∷ l) g = grown w s l (plus g (pairAt w s (e .0) (e .1) .after .stats))
 
-abbrev pub overlapOf : Answer → ℕ
-overlapOf NoOverlap = 0
-overlapOf Overlap = 1
-overlapOf (Refused r) = 0
+abbrev pub overlapCount : Answer → ℕ
+overlapCount NoOverlap = 0
+overlapCount Overlap = 1
+overlapCount (Refused r) = 0
 
 -- how many of the pairs overlap
 unfoldable pub overlapsIn : Strategies → List ℕ → List (ℕ × ℕ) → ℕ
 overlapsIn w s [] = 0
-overlapsIn w s (e ∷ l) = overlapOf (pairAt w s (e .0) (e .1) .answer) + overlapsIn w s l
+overlapsIn w s (e ∷ l) = overlapCount (pairAt w s (e .0) (e .1) .answer) + overlapsIn w s l
 
 -- the bytes u and the numbers r after the pairs l of s are treated
 pub record AppliedTo (w : Strategies) (s : List ℕ) (l : List (ℕ × ℕ)) (g : CorrectionStats) (u : List ℕ) (r : Applied) : Type 0 where

@@ -22,7 +22,7 @@ abbrev pub callIn : Strategies → List ℕ → ℕ → ℕ → ℕ → ℕ → 
 callIn w s a e b h = pairOf w (state (part s a e) (part s b h) zeroed)
 
 -- u has both parts as the pair call leaves them, and r is its answer and its counts
-pub record Put (w : Strategies) (s : List ℕ) (a e b h : ℕ) (u : List ℕ) (r : Called) : Type 0 where
+pub record BothPut (w : Strategies) (s : List ℕ) (a e b h : ℕ) (u : List ℕ) (r : Called) : Type 0 where
   pub bytes : u ≡ splice (splice s a e (callIn w s a e b h .after .first)) b h (callIn w s a e b h .after .second)
   pub answer : r .answer ≡ callIn w s a e b h .answer
   pub stats : r .stats ≡ callIn w s a e b h .after .stats

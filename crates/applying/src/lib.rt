@@ -10,8 +10,8 @@ ghost use Rattle.stats.specs.Room.{Room};
 ghost use Rattle.frames.specs.Table.{Placed};
 ghost use Rattle.mates.specs.Register.{pairsOf};
 ghost use Rattle.mates.specs.Table.{Mated};
-ghost use Rattle.applying.specs.Applied.{overlapOf, AppliedTo};
-ghost use Rattle.applying.specs.Within.{startIn, endIn, Given, Within, Put};
+ghost use Rattle.applying.specs.Applied.{overlapCount, AppliedTo};
+ghost use Rattle.applying.specs.Within.{startIn, endIn, Given, Within, BothPut};
 
 // What treating the pairs gives: how many there are, how many of these overlap, and the counts after.
 pub struct Applied {
@@ -22,7 +22,7 @@ pub struct Applied {
 
 // How much a pair with this answer adds to the number of overlapping ones.
 fn overlap_of(a: Answer) -> usize
-    ensures { λ r. ⌜ (r ≡ overlapOf a) × (r ≤ 1) ⌝ }
+    ensures { λ r. ⌜ (r ≡ overlapCount a) × (r ≤ 1) ⌝ }
 {
     match a {
         Answer::NoOverlap => 0,
@@ -55,7 +55,7 @@ fn apply_parts(
     w: Strategies,
 ) -> Called
     requires { ⌜ Within (now buf) (length (now room)) start end from to ⌝ }
-    ensures { λ r. ⌜ Put w (now (buf .entry)) start end from to (now (buf .exit)) r ⌝ }
+    ensures { λ r. ⌜ BothPut w (now (buf .entry)) start end from to (now (buf .exit)) r ⌝ }
 {
     let n = to - from;
     copy(&mut room[0..n], &buf[from..to]);
@@ -82,7 +82,7 @@ fn apply_pair(
     w: Strategies,
 ) -> Called
     requires { ⌜ Given (now buf) (length (now room)) (now begins) i j ⌝ }
-    ensures { λ r. ⌜ Put w (now (buf .entry)) (startIn (now (begins .entry)) i) (endIn (now (begins .entry)) i) (startIn (now (begins .entry)) j) (endIn (now (begins .entry)) j) (now (buf .exit)) r ⌝ }
+    ensures { λ r. ⌜ BothPut w (now (buf .entry)) (startIn (now (begins .entry)) i) (endIn (now (begins .entry)) i) (startIn (now (begins .entry)) j) (endIn (now (begins .entry)) j) (now (buf .exit)) r ⌝ }
 {
     let start = begins[i] + 4;
     let end = begins[i + 1];

@@ -7,7 +7,7 @@ use native.Mathlib.Omega.{arith}
 use native.Mathlib.Nat.{add-zero}
 use lib.ListN.{length, getD}
 use borrow.Author.Tests.{eq-eqb, ne-eqb}
-use Rattle.fields.specs.Number.{le}
+use Rattle.fields.specs.Number.{unsigned}
 use Rattle.fields.proofs.Arith.{lt-or-le}
 use Rattle.stats.specs.Room.{Room}
 use Rattle.stats.proofs.CountLaws.{room-less}
@@ -41,8 +41,8 @@ picked-zeros d i j t (suc k) n h z =
 
 -- ---- the search
 -- eight bytes that make 0 are each 0
-zero-bytes : (w : ℕ) (l : List ℕ) (at : ℕ) → le w l at ≡ 0 → (u : ℕ) → at ≤ u → u < at + w → getD l u 0 ≡ 0
-unfolding le
+zero-bytes : (w : ℕ) (l : List ℕ) (at : ℕ) → unsigned w l at ≡ 0 → (u : ℕ) → at ≤ u → u < at + w → getD l u 0 ≡ 0
+unfolding unsigned
 zero-bytes zero l at e u a b = absurd (omega arith)
 zero-bytes (suc w) l at e u a b =
     ⊎-elim (λ (q : at < u). zero-bytes w l (at + 1) (omega arith) u (omega arith) (omega arith))
@@ -54,7 +54,7 @@ module _ (l : List ℕ) (t n : ℕ) where
   passed-start h = record { low = omega arith; high = h; zeros = λ u a b. absurd (omega arith) }
 
   module _ (u : ℕ) (h : Passed (λ (u : ℕ). getD l u 0) t n u) where
-    pub passed-eight : 8 ≤ n - u → le 8 l u ≡ 0 → Passed (λ (u : ℕ). getD l u 0) t n (u + 8)
+    pub passed-eight : 8 ≤ n - u → unsigned 8 l u ≡ 0 → Passed (λ (u : ℕ). getD l u 0) t n (u + 8)
     passed-eight k e =
         record {
           low = omega (arith, h .low);

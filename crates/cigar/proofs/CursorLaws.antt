@@ -10,9 +10,9 @@ use lib.ListN.{length, take, drop}
 use lib.Seq.{getD-take}
 use Rattle.cigar.specs.Operation.{Kind, Both, Reference, Read, Neither, Unknown, kind, len, readLen, refLen, readOf, refOf, readSum, refSum, opsOf}
 use Rattle.cigar.specs.declared.Cursor.{Cursor}
-use Rattle.fields.specs.Number.{le}
+use Rattle.fields.specs.Number.{unsigned}
 use Rattle.cigar.specs.Found.{opAt, offAt}
-use Rattle.cigar.specs.Passing.{cursor, runOf, runLen, restOps, curOff, readEnd, refEnd, tookKind, tookOperation, advanced, Kept, Stands}
+use Rattle.cigar.specs.Passing.{cursor, runOf, runLen, restOps, curOff, readEnd, refEnd, tookKind, tookOperation, advanced, SameBases, Stands}
 use Rattle.fields.proofs.Arith.{lt-or-le}
 use Rattle.cigar.proofs.PlaceLaws.{run-below, run-in, run-past, run-zero, off-below, ops-step}
 
@@ -93,20 +93,20 @@ took-at c Read m = refl
 took-at c Neither m = refl
 took-at c Unknown m = refl
 
-pub kept-refl : (cig : List ℕ) (c : Cursor) → Kept cig c c
+pub kept-refl : (cig : List ℕ) (c : Cursor) → SameBases cig c c
 kept-refl cig c = record { same = λ p. refl; reads = refl; refs = refl; up = omega arith; on = omega arith }
 
-pub kept-trans : (cig : List ℕ) (c d e : Cursor) → Kept cig c d → Kept cig d e → Kept cig c e
+pub kept-trans : (cig : List ℕ) (c d e : Cursor) → SameBases cig c d → SameBases cig d e → SameBases cig c e
 kept-trans cig c d e h k =
     record { same = λ p. k .same p ∙ h .same p; reads = k .reads ∙ h .reads; refs = k .refs ∙ h .refs; up = omega (arith, h .up, k .up); on = omega (arith, h .on, k .on) }
 
 module _ (cig : List ℕ) (c : Cursor) (none-left : c .left ≡ 0) (whole : c .at + 4 ≤ length cig) where
-  pub took-kept : Kept cig c (tookOperation cig c)
+  pub took-kept : SameBases cig c (tookOperation cig c)
   unfolding curOff offAt readSum refSum
   took-kept = record { same = same; reads = reads; refs = refs; up = took-up c (kind w) (len w); on = took-on c (kind w) (len w) }
     where
       w : ℕ
-      w = le 4 cig (c .at)
+      w = unsigned 4 cig (c .at)
 
       tail : List ℕ
       tail = opsOf (drop (c .at + 4) cig)
@@ -124,13 +124,13 @@ module _ (cig : List ℕ) (c : Cursor) (none-left : c .left ≡ 0) (whole : c .a
       refs = took-refs cig c (kind w) (len w) ∙ (rw (split, none-left) (omega arith))
 
   -- what the operation uses is within the ends
-  pub took-room : (readLen (le 4 cig (c .at)) + c .offset .0 ≤ readEnd cig c) × (refLen (le 4 cig (c .at)) + c .position .0 ≤ refEnd cig c)
+  pub took-room : (readLen (unsigned 4 cig (c .at)) + c .offset .0 ≤ readEnd cig c) × (refLen (unsigned 4 cig (c .at)) + c .position .0 ≤ refEnd cig c)
   unfolding readSum refSum
   took-room = rw (ops-step cig (c .at) whole) (omega arith)
 
 -- a number that lies before byte e
-pub le-take : (w : ℕ) (l : List ℕ) (e at : ℕ) → at + w ≤ e → le w (take e l) at ≡ le w l at
-unfolding le
+pub le-take : (w : ℕ) (l : List ℕ) (e at : ℕ) → at + w ≤ e → unsigned w (take e l) at ≡ unsigned w l at
+unfolding unsigned
 le-take zero l e at h = refl
 le-take (suc w) l e at h =
     let k : at < e = omega arith in
@@ -144,16 +144,16 @@ took-run Read n c = ap₂ (λ (q r : ℕ). cursor (c .at + 4) q r 0) (omega arit
 took-run Neither n c = ap₂ (λ (q r : ℕ). cursor (c .at + 4) q r 0) (omega arith) (omega arith)
 took-run Unknown n c = ap₂ (λ (q r : ℕ). cursor (c .at + 4) q r 0) (omega arith) (omega arith)
 
-pub took-as : (l : List ℕ) (e op : ℕ) (c : Cursor) (x a b : ℕ) → op ≡ le 4 l (c .at) → x ≡ runLen op → a ≡ readLen op → b ≡ refLen op → c .at + 4 ≤ e
+pub took-as : (l : List ℕ) (e op : ℕ) (c : Cursor) (x a b : ℕ) → op ≡ unsigned 4 l (c .at) → x ≡ runLen op → a ≡ readLen op → b ≡ refLen op → c .at + 4 ≤ e
     → cursor (c .at + 4) (c .offset .0 + (a - x)) (c .position .0 + (b - x)) x ≡ tookOperation (take e l) c
 took-as l e op c x a b eo ex ea eb h =
-    let f : le 4 (take e l) (c .at) ≡ op = le-take 4 l e (c .at) h ∙ sym eo in
+    let f : unsigned 4 (take e l) (c .at) ≡ op = le-take 4 l e (c .at) h ∙ sym eo in
     rw (f, ex, ea, eb) (took-run (kind op) (len op) c)
 
 pub took-past : (cig : List ℕ) (c : Cursor) → (tookOperation cig c) .at ≡ c .at + 4
-took-past cig c = took-at c (kind (le 4 cig (c .at))) (len (le 4 cig (c .at)))
+took-past cig c = took-at c (kind (unsigned 4 cig (c .at))) (len (unsigned 4 cig (c .at)))
 
-pub kept-stands : (cig : List ℕ) (c d : Cursor) → Stands cig c → Kept cig c d → d .at ≤ length cig → Stands cig d
+pub kept-stands : (cig : List ℕ) (c d : Cursor) → Stands cig c → SameBases cig c d → d .at ≤ length cig → Stands cig d
 kept-stands cig c d s k h = record { within = h; reads = omega (arith, s .reads, k .reads); refs = omega (arith, s .refs, k .refs) }
 
 pub advanced-stands : (cig : List ℕ) (c : Cursor) (d : ℕ) → Stands cig c → d ≤ c .left → Stands cig (advanced c d)

@@ -10,7 +10,7 @@ use lib.Dec.{eqb, ltb}
 use borrow.Author.Tests.{lt-ltb, le-ltb, eq-eqb, ne-eqb, eqb-true, ltb-false}
 use Rattle.refusal.specs.declared.Refusal.the-variants.{ReadTotal, ReferenceEnd}
 use Rattle.fields.specs.declared.Layout.{Layout}
-use Rattle.fields.specs.Number.{le}
+use Rattle.fields.specs.Number.{unsigned}
 use Rattle.cigar.specs.Operation.{Kind, Both, Reference, Read, Neither, Unknown, kindOf, kind, len, readLen, refLen, readSum, refSum, operations, opsIn}
 use Rattle.cigar.specs.declared.Walk.{Walk}
 use Rattle.cigar.specs.declared.Walk.the-variants.{Totals, UnknownCode, ZeroLength}
@@ -66,7 +66,7 @@ module _ (l : List ℕ) (from end : ℕ) (fits : end ≤ length l) where
         let none : operations at end l ≡ [] = ops-short (take end l) at (omega (arith, long)) in
         ap₂ Totals (omega arith) (omega arith) ∙ (rw none at (h .left))
 
-    module _ (w : ℕ) (more : at + 4 ≤ end) (is : w ≡ le 4 l at) where
+    module _ (w : ℕ) (more : at + 4 ≤ end) (is : w ≡ unsigned 4 l at) where
       rest : List ℕ
       rest = operations (at + 4) end l
 

@@ -12,7 +12,7 @@ use borrow.Author.Tests.{lt-ltb, le-ltb, le-leb, lt-leb}
 use Rattle.cigar.specs.Operation.{Kind, Both, Reference, Read, Neither, Unknown, kindOf, kind, len, readLen, refLen, readOf, refOf, opsOf}
 use Rattle.cigar.specs.Found.{runAt, opAt, offAt}
 use Rattle.cigar.specs.Passing.{runOf, runLen}
-use Rattle.fields.specs.Number.{le}
+use Rattle.fields.specs.Number.{unsigned}
 use Rattle.fields.proofs.Arith.{lt-or-le}
 
 -- ---- a run
@@ -122,8 +122,8 @@ module _ (op : ℕ) where
 pub kind-bad : (c : ℕ) → 9 ≤ c → kindOf c ≡ Unknown
 kind-bad c h = List·getD-eq-default (Both ∷ Read ∷ Reference ∷ Reference ∷ Read ∷ Neither ∷ Neither ∷ Both ∷ Both ∷ []) Unknown h
 
-pub ops-step : (l : List ℕ) (at : ℕ) → at + 4 ≤ length l → opsOf (drop at l) ≡ le 4 l at ∷ opsOf (drop (at + 4) l)
-unfolding opsOf le
+pub ops-step : (l : List ℕ) (at : ℕ) → at + 4 ≤ length l → opsOf (drop at l) ≡ unsigned 4 l at ∷ opsOf (drop (at + 4) l)
+unfolding opsOf unsigned
 ops-step l at h =
     let h0 : at < length l = omega arith in
     let h1 : suc at < length l = omega arith in

@@ -3,7 +3,7 @@ use Prim.Native.Nat.{ℕ, _+_, _/_, _%_}
 use mathlib.Core.List.{List, [], _∷_}
 use lib.ListN.{getD, take, drop}
 use Rattle.fields.specs.declared.Layout.{Layout}
-use Rattle.fields.specs.Number.{le}
+use Rattle.fields.specs.Number.{unsigned}
 
 -- what an operation uses: read and reference, one of them, or neither; no operation has a code above 8
 pub data Kind : Type 0 where
@@ -58,7 +58,7 @@ opsOf [] = []
 opsOf (a ∷ []) = []
 opsOf (a ∷ b ∷ []) = []
 opsOf (a ∷ b ∷ c ∷ []) = []
-opsOf (a ∷ b ∷ c ∷ d ∷ r) = le 4 (a ∷ b ∷ c ∷ d ∷ r) 0 ∷ opsOf r
+opsOf (a ∷ b ∷ c ∷ d ∷ r) = unsigned 4 (a ∷ b ∷ c ∷ d ∷ r) 0 ∷ opsOf r
 
 -- the operations that stand from byte `from` to byte `end`
 abbrev pub operations : ℕ → ℕ → List ℕ → List ℕ

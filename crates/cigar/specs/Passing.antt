@@ -4,7 +4,7 @@ use mathlib.Core.Path.{_≡_}
 use mathlib.Core.List.{List, []}
 use mathlib.Core.Option.{Option}
 use lib.ListN.{drop, length}
-use Rattle.fields.specs.Number.{le}
+use Rattle.fields.specs.Number.{unsigned}
 use Rattle.cigar.specs.Operation.{Kind, Both, Reference, Read, Neither, Unknown, kind, len, readSum, refSum, opsOf}
 use Rattle.cigar.specs.declared.Cursor.{Cursor}
 use Rattle.cigar.specs.Found.{runAt, offAt}
@@ -47,13 +47,13 @@ tookKind Neither n c = cursor (c .at + 4) (c .offset .0) (c .position .0) 0
 tookKind Unknown n c = cursor (c .at + 4) (c .offset .0) (c .position .0) 0
 
 abbrev pub tookOperation : List ℕ → Cursor → Cursor
-tookOperation cig c = tookKind (kind (le 4 cig (c .at))) (len (le 4 cig (c .at))) c
+tookOperation cig c = tookKind (kind (unsigned 4 cig (c .at))) (len (unsigned 4 cig (c .at))) c
 
 abbrev pub advanced : Cursor → ℕ → Cursor
 advanced c d = cursor (c .at) (c .offset .0 + d) (c .position .0 + d) (c .left - d)
 
 -- d stands for the same bases as c
-pub record Kept (cig : List ℕ) (c d : Cursor) : Type 0 where
+pub record SameBases (cig : List ℕ) (c d : Cursor) : Type 0 where
   pub same : (p : ℕ) → curOff cig d p ≡ curOff cig c p
   pub reads : readEnd cig d ≡ readEnd cig c
   pub refs : refEnd cig d ≡ refEnd cig c
@@ -62,7 +62,7 @@ pub record Kept (cig : List ℕ) (c d : Cursor) : Type 0 where
 
 -- and has one at hand unless there is none left
 pub record Settled (cig : List ℕ) (c d : Cursor) : Type 0 where
-  pub kept : Kept cig c d
+  pub kept : SameBases cig c d
   pub within : d .at ≤ length cig
   pub done : d .left ≡ 0 → restOps cig d ≡ []
 

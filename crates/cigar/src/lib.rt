@@ -7,7 +7,7 @@ use refusal::Refusal;
 ghost use mathlib.Core.Path.{_≡_};
 ghost use Prim.Native.Nat.{_+_, _/_, _≤_, _<_};
 ghost use lib.ListN.{length, take};
-ghost use Rattle.fields.specs.Number.{le};
+ghost use Rattle.fields.specs.Number.{unsigned};
 ghost use Rattle.fields.specs.Sound.{Lies};
 ghost use Rattle.cigar.specs.Operation.{readLen, refLen, operations};
 ghost use Rattle.cigar.specs.Judge.{walkOf, operationsOf, spanOf};
@@ -80,7 +80,7 @@ fn run_len(op: usize) -> usize
 // The operation at a byte: its length times 16, and its code.
 fn operation_at(s: &[u8], at: usize) -> usize
     requires { ⌜ at + 4 ≤ length (now s) ⌝ }
-    ensures { λ r. ⌜ (r ≡ le 4 (now (s .entry)) at) × (r < 4294967296) ⌝ }
+    ensures { λ r. ⌜ (r ≡ unsigned 4 (now (s .entry)) at) × (r < 4294967296) ⌝ }
 {
     fields::u32_at(s, at) as usize
 }

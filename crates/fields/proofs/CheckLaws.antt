@@ -9,7 +9,7 @@ use lib.ListN.{length, take}
 use lib.Seq.{getD-take}
 use borrow.Author.Tests.{ltb-false}
 use Rattle.refusal.specs.declared.Refusal.{Refusal}
-use Rattle.fields.specs.Number.{le}
+use Rattle.fields.specs.Number.{unsigned}
 use Rattle.fields.specs.Layout.{Header, header, basesAt, tagsAt, layoutOf}
 use Rattle.fields.specs.Check.{checkOf}
 use Rattle.fields.specs.Sound.{Sound}
@@ -61,12 +61,12 @@ good-any-place s p y e q =
     let t = passes s p y e in
     simp (t .short, t .long, t .operations, t .qualities, t .layout)
 
-le-take : (w n : ℕ) (s : List ℕ) (at : ℕ) → at + w ≤ n → le w (take n s) at ≡ le w s at
+le-take : (w n : ℕ) (s : List ℕ) (at : ℕ) → at + w ≤ n → unsigned w (take n s) at ≡ unsigned w s at
 le-take w n s at h = le-same w (take n s) s at (λ k l u. getD-take n s k 0 (omega arith))
 
 header-take : (s : List ℕ) → header (take 32 s) ≡ header s
 header-take s =
-    let t : (w at : ℕ) → at + w ≤ 32 → le w (take 32 s) at ≡ le w s at = λ w at h. le-take w 32 s at h in
+    let t : (w at : ℕ) → at + w ≤ 32 → unsigned w (take 32 s) at ≡ unsigned w s at = λ w at h. le-take w 32 s at h in
     rw (t 4 0 (omega arith), t 4 4 (omega arith), t 1 8 (omega arith), t 1 9 (omega arith), t 2 10 (omega arith), t 2 12 (omega arith), t 2 14 (omega arith), t 4 16 (omega arith), t 4 20 (omega arith), t 4 24 (omega arith), t 4 28 (omega arith))
 
 -- the header is read from the first 32 bytes alone

@@ -6,25 +6,25 @@ use native.Mathlib.Nat.{add-zero, zero-add, suc-add, mul-assoc, pow-succ', pow-z
 use native.Mathlib.Omega.{arith}
 use lib.ListN.{getD, set, length, length-set}
 use lib.Seq.{getD-set-other, getD-set-same}
-use Rattle.fields.specs.Number.{le, put}
+use Rattle.fields.specs.Number.{unsigned, put}
 
 -- v + w bytes hold what the first v bytes hold, and above it what the next w bytes hold
-pub le-add : (v w : ℕ) (s : List ℕ) (at : ℕ) → le (v + w) s at ≡ le v s at + 256 ^ v * le w s (at + v)
-unfolding le
+pub le-add : (v w : ℕ) (s : List ℕ) (at : ℕ) → unsigned (v + w) s at ≡ unsigned v s at + 256 ^ v * unsigned w s (at + v)
+unfolding unsigned
 le-add zero w s at = rw (zero-add w, add-zero at, pow-zero) (omega arith)
 le-add (suc v) w s at =
     let e : at + suc v ≡ at + 1 + v = omega arith in
     rw (suc-add, e, pow-succ', mul-assoc) (omega (arith, le-add v w s (at + 1)))
 
 -- w bytes hold a number below 256 ^ w
-pub le-lt : (w : ℕ) (s : List ℕ) (at : ℕ) → ((k : ℕ) → getD s k 0 < 256) → le w s at < 256 ^ w
-unfolding le
+pub le-lt : (w : ℕ) (s : List ℕ) (at : ℕ) → ((k : ℕ) → getD s k 0 < 256) → unsigned w s at < 256 ^ w
+unfolding unsigned
 le-lt zero s at h = rw pow-zero (omega arith)
 le-lt (suc w) s at h = rw pow-succ' (omega (arith, h at, le-lt w s (at + 1) h))
 
 -- the same bytes hold the same number
-pub le-same : (w : ℕ) (a b : List ℕ) (at : ℕ) → ((k : ℕ) → at ≤ k → k < at + w → getD a k 0 ≡ getD b k 0) → le w a at ≡ le w b at
-unfolding le
+pub le-same : (w : ℕ) (a b : List ℕ) (at : ℕ) → ((k : ℕ) → at ≤ k → k < at + w → getD a k 0 ≡ getD b k 0) → unsigned w a at ≡ unsigned w b at
+unfolding unsigned
 le-same zero a b at h = refl
 le-same (suc w) a b at h =
     rw (h at (omega arith) (omega arith), le-same w a b (at + 1) (λ k l u. h k (omega arith) (omega arith)))
@@ -58,8 +58,8 @@ put-after (suc w) s at v k h =
     put-after w (set s at (v % 256)) (at + 1) (v / 256) k (omega arith) ∙ getD-set-other s at k (v % 256) 0 (λ e. omega arith)
 
 -- what was stored is read
-pub le-put : (w : ℕ) (s : List ℕ) (at v : ℕ) → at + w ≤ length s → v < 256 ^ w → le w (put w s at v) at ≡ v
-unfolding le put
+pub le-put : (w : ℕ) (s : List ℕ) (at v : ℕ) → at + w ≤ length s → v < 256 ^ w → unsigned w (put w s at v) at ≡ v
+unfolding unsigned put
 le-put zero s at v h l = let z : v < 1 = rw pow-zero at l in omega arith
 le-put (suc w) s at v h l =
     let m : v < 256 * 256 ^ w = rw pow-succ' at l in

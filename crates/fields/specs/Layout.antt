@@ -3,7 +3,7 @@ use Prim.Native.Nat.{ℕ, _+_, _-_, _*_, _/_}
 use mathlib.Core.List.{List}
 use lib.IntN.{ℤ}
 use lib.ListN.{take, drop}
-use Rattle.fields.specs.Number.{le, signed32}
+use Rattle.fields.specs.Number.{unsigned, signed32}
 use Rattle.fields.specs.declared.Layout.{Layout}
 
 -- the numbers that stand before the name
@@ -24,17 +24,17 @@ pub record Header : Type 0 where
 abbrev pub header : List ℕ → Header
 header s =
     record {
-      refId = signed32 (le 4 s 0);
-      pos = signed32 (le 4 s 4);
-      nameLength = le 1 s 8;
-      mapq = le 1 s 9;
-      bin = le 2 s 10;
-      operationCount = le 2 s 12;
-      flags = le 2 s 14;
-      lSeq = le 4 s 16;
-      mateId = signed32 (le 4 s 20);
-      matePos = signed32 (le 4 s 24);
-      templateLength = signed32 (le 4 s 28);
+      refId = signed32 (unsigned 4 s 0);
+      pos = signed32 (unsigned 4 s 4);
+      nameLength = unsigned 1 s 8;
+      mapq = unsigned 1 s 9;
+      bin = unsigned 2 s 10;
+      operationCount = unsigned 2 s 12;
+      flags = unsigned 2 s 14;
+      lSeq = unsigned 4 s 16;
+      mateId = signed32 (unsigned 4 s 20);
+      matePos = signed32 (unsigned 4 s 24);
+      templateLength = signed32 (unsigned 4 s 28);
     }
 
 -- the name: its length minus 1 bytes from 32 on, none for the lengths 0 and 1

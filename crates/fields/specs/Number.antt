@@ -7,9 +7,9 @@ use lib.IntN.{ℤ, pos, negsuc}
 use lib.ListN.{getD, set}
 
 -- the number that w bytes of s from place at on hold
-unfoldable pub le : ℕ → List ℕ → ℕ → ℕ
-le zero s at = 0
-le (suc w) s at = getD s at 0 + 256 * le w s (at + 1)
+unfoldable pub unsigned : ℕ → List ℕ → ℕ → ℕ
+unsigned zero s at = 0
+unsigned (suc w) s at = getD s at 0 + 256 * unsigned w s (at + 1)
 
 -- s with the w low bytes of v from place at on
 unfoldable pub put : ℕ → List ℕ → ℕ → ℕ → List ℕ

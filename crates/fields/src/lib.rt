@@ -3,7 +3,7 @@ use refusal::Refusal;
 ghost use mathlib.Core.Path.{_≡_};
 ghost use Prim.Native.Nat.{_+_, _<_, _≤_};
 ghost use lib.ListN.{length};
-ghost use Rattle.fields.specs.Number.{le, put, signed32};
+ghost use Rattle.fields.specs.Number.{unsigned, put, signed32};
 ghost use Rattle.fields.specs.Flag.{hasBit};
 ghost use Rattle.fields.specs.Placed.{placedOf, sameId};
 ghost use Rattle.fields.specs.Layout.{header};
@@ -25,7 +25,7 @@ fn wide(x: u8) -> u16
 // The number that the two bytes from `at` on hold, least byte first.
 pub fn u16_at(s: &[u8], at: usize) -> u16
     requires { ⌜ at + 2 ≤ length (now s) ⌝ }
-    ensures { λ r. ⌜ r ≡ le 2 (now (s .entry)) at ⌝ }
+    ensures { λ r. ⌜ r ≡ unsigned 2 (now (s .entry)) at ⌝ }
 {
     let low = wide(s[at]);
     let high = wide(s[at + 1]);
@@ -35,7 +35,7 @@ pub fn u16_at(s: &[u8], at: usize) -> u16
 // The number that the four bytes from `at` on hold, least byte first.
 pub fn u32_at(s: &[u8], at: usize) -> u32
     requires { ⌜ at + 4 ≤ length (now s) ⌝ }
-    ensures { λ r. ⌜ r ≡ le 4 (now (s .entry)) at ⌝ }
+    ensures { λ r. ⌜ r ≡ unsigned 4 (now (s .entry)) at ⌝ }
 {
     u16_at(s, at) as u32 + 65536 * (u16_at(s, at + 2) as u32)
 }
@@ -43,7 +43,7 @@ pub fn u32_at(s: &[u8], at: usize) -> u32
 // The number that the eight bytes from `at` on hold, least byte first.
 pub fn u64_at(s: &[u8], at: usize) -> u64
     requires { ⌜ at + 8 ≤ length (now s) ⌝ }
-    ensures { λ r. ⌜ r ≡ le 8 (now (s .entry)) at ⌝ }
+    ensures { λ r. ⌜ r ≡ unsigned 8 (now (s .entry)) at ⌝ }
 {
     u32_at(s, at) as u64 + 4294967296 * (u32_at(s, at + 4) as u64)
 }
@@ -51,7 +51,7 @@ pub fn u64_at(s: &[u8], at: usize) -> u64
 // The signed number that the four bytes from `at` on hold, in two's complement.
 pub fn i32_at(s: &[u8], at: usize) -> i32
     requires { ⌜ at + 4 ≤ length (now s) ⌝ }
-    ensures { λ r. ⌜ r ≡ signed32 (le 4 (now (s .entry)) at) ⌝ }
+    ensures { λ r. ⌜ r ≡ signed32 (unsigned 4 (now (s .entry)) at) ⌝ }
 {
     let u = u32_at(s, at);
     if u < 2147483648 {

@@ -16,7 +16,7 @@ use Rattle.refusal.specs.declared.Refusal.the-variants as Why
 use Rattle.fields.specs.declared.Layout.{Layout}
 use Rattle.fields.specs.declared.Checked.{Checked}
 use Rattle.fields.specs.declared.Checked.the-variants.{Good, Bad}
-use Rattle.fields.specs.Number.{le}
+use Rattle.fields.specs.Number.{unsigned}
 use Rattle.fields.specs.Layout.{layoutOf}
 use Rattle.fields.specs.Check.{checkOf}
 use Rattle.fields.specs.Sound.{Sound}
@@ -35,7 +35,7 @@ module _ (s : List ℕ) (p k : ℕ) (inside : p ≤ length s) where
   unfolding frameOf
   frame-short h = simp (lt-ltb (length s) (p + 4) (omega arith))
 
-  module _ (four : 4 ≤ length s - p) (size : ℕ) (e : size ≡ le 4 s p) where
+  module _ (four : 4 ≤ length s - p) (size : ℕ) (e : size ≡ unsigned 4 s p) where
     pub frame-past : length s - p - 4 < size → Refused (Why.Frame k) ≡ frameOf s p k
     unfolding frameOf
     frame-past h = simp (le-ltb (length s) (p + 4) (omega arith), lt-ltb (length s) (frameEnd s p) (omega arith))

@@ -8,7 +8,7 @@ use Rattle.refusal.specs.declared.Refusal.{Refusal}
 use Rattle.refusal.specs.declared.Refusal.the-variants as Why
 use Rattle.fields.specs.declared.Checked.{Checked}
 use Rattle.fields.specs.declared.Checked.the-variants.{Good, Bad}
-use Rattle.fields.specs.Number.{le}
+use Rattle.fields.specs.Number.{unsigned}
 use Rattle.fields.specs.Check.{checkOf}
 use Rattle.frames.specs.Part.{part, splice}
 use Rattle.frames.specs.declared.Frame.{Frame}
@@ -18,7 +18,7 @@ use Rattle.frames.specs.declared.Framing.the-variants.{Whole, Broken}
 
 -- where a frame that begins at p ends
 abbrev pub frameEnd : List ℕ → ℕ → ℕ
-frameEnd s p = p + 4 + le 4 s p
+frameEnd s p = p + 4 + unsigned 4 s p
 
 -- where frame k begins
 unfoldable pub beginOf : List ℕ → ℕ → ℕ

@@ -9,7 +9,7 @@ use borrow.Author.Tests.{eqb-true, eq-eqb, ne-eqb}
 use lib.Dec.{eqb}
 use lib.ListN.{length, getD, drop, drop-of-length-le, length-drop}
 use lib.Seq.{drop-cons}
-use Rattle.fields.specs.Number.{le}
+use Rattle.fields.specs.Number.{unsigned}
 use Rattle.fields.specs.Flag.{hasBit}
 use Rattle.fields.specs.Layout.{header, nameIn}
 use Rattle.mates.specs.Register.{placeBy, placeIn, nameAt, sameBytes, fits, holder, mateOf}
@@ -17,8 +17,8 @@ use Rattle.mates.specs.Table.{mixOf, digestFrom, keyIn}
 use Rattle.mates.proofs.NameLaws.{and-true, same-true, same-refl}
 
 -- ---- the digest, by the turns of its two loops
-next-word : (h i : ℕ) (x : List ℕ) → i + 4 ≤ length x → digestFrom (mixOf h (le 4 x i)) (drop (i + 4) x) ≡ digestFrom h (drop i x)
-unfolding digestFrom le
+next-word : (h i : ℕ) (x : List ℕ) → i + 4 ≤ length x → digestFrom (mixOf h (unsigned 4 x i)) (drop (i + 4) x) ≡ digestFrom h (drop i x)
+unfolding digestFrom unsigned
 next-word h i x l =
     let h0 : i < length x = omega arith in
     let h1 : suc i < length x = omega arith in
@@ -27,7 +27,7 @@ next-word h i x l =
     simp (add-one, add-four)
     (rw (drop-cons x i 0 h0, drop-cons x (suc i) 0 h1, drop-cons x (suc (suc i)) 0 h2, drop-cons x (suc (suc (suc i))) 0 h3))
 
-pub digest-word : (h i v w d : ℕ) (x : List ℕ) → i + 4 ≤ length x → w ≡ le 4 x i → v ≡ mixOf h w → digestFrom h (drop i x) ≡ d → digestFrom v (drop (i + 4) x) ≡ d
+pub digest-word : (h i v w d : ℕ) (x : List ℕ) → i + 4 ≤ length x → w ≡ unsigned 4 x i → v ≡ mixOf h w → digestFrom h (drop i x) ≡ d → digestFrom v (drop (i + 4) x) ≡ d
 digest-word h i v w d x l ew ev e = ap (λ (z : ℕ). digestFrom z (drop (i + 4) x)) (ev ∙ ap (mixOf h) ew) ∙ next-word h i x l ∙ e
 
 last-byte : (h b : ℕ) (l : List ℕ) → length l < 3 → digestFrom (mixOf h b) l ≡ digestFrom h (b ∷ l)

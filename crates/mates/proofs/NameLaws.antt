@@ -9,7 +9,7 @@ use borrow.Author.Tests.{eq-eqb, eqb-true}
 use lib.Dec.{eqb}
 use lib.ListN.{length, getD, drop, drop-of-length-le}
 use lib.Seq.{drop-cons}
-use Rattle.fields.specs.Number.{le}
+use Rattle.fields.specs.Number.{unsigned}
 use Rattle.mates.specs.Register.{sameBytes}
 
 pub no-bool : false ≡ true → ⊥
@@ -56,22 +56,22 @@ rest-same x y i h k = rw (drop-of-length-le x h, drop-of-length-le y k)
 next-same : (x y : List ℕ) (i : ℕ) → i < length x → i < length y → getD x i 0 ≡ getD y i 0 → sameBytes (drop i x) (drop i y) ≡ sameBytes (drop (i + 1) x) (drop (i + 1) y)
 next-same x y i h k e = step-same x y i h k ∙ ap (λ (t : Bool). t && sameBytes (drop (i + 1) x) (drop (i + 1) y)) (eq-eqb _ _ e)
 
-pub equal-words : (w : ℕ) (x y : List ℕ) (i : ℕ) → i + w ≤ length x → i + w ≤ length y → ((k : ℕ) → getD x k 0 < 256) → ((k : ℕ) → getD y k 0 < 256) → le w x i ≡ le w y i
+pub equal-words : (w : ℕ) (x y : List ℕ) (i : ℕ) → i + w ≤ length x → i + w ≤ length y → ((k : ℕ) → getD x k 0 < 256) → ((k : ℕ) → getD y k 0 < 256) → unsigned w x i ≡ unsigned w y i
     → sameBytes (drop i x) (drop i y) ≡ sameBytes (drop (i + w) x) (drop (i + w) y)
-unfolding le
+unfolding unsigned
 equal-words zero x y i h k bx by e = let z : i + 0 ≡ i = omega arith in rw z
 equal-words (suc w) x y i h k bx by e =
     let z : i + suc w ≡ i + 1 + w = omega arith in
     let a : getD x i 0 ≡ getD y i 0 = omega (arith, bx i, by i) in
-    let b : le w x (i + 1) ≡ le w y (i + 1) = omega (arith, bx i, by i) in
+    let b : unsigned w x (i + 1) ≡ unsigned w y (i + 1) = omega (arith, bx i, by i) in
     rw z (next-same x y i (omega arith) (omega arith) a ∙ equal-words w x y (i + 1) (omega arith) (omega arith) bx by b)
 
-pub other-words : (w : ℕ) (x y : List ℕ) (i : ℕ) → i + w ≤ length x → i + w ≤ length y → (le w x i ≡ le w y i → ⊥) → sameBytes (drop i x) (drop i y) ≡ false
-unfolding le
+pub other-words : (w : ℕ) (x y : List ℕ) (i : ℕ) → i + w ≤ length x → i + w ≤ length y → (unsigned w x i ≡ unsigned w y i → ⊥) → sameBytes (drop i x) (drop i y) ≡ false
+unfolding unsigned
 other-words zero x y i h k d = absurd (d refl)
 other-words (suc w) x y i h k d = go (other-words w x y (i + 1) (omega arith) (omega arith)) (eqb (getD x i 0) (getD y i 0)) refl
   where
-    go : ((le w x (i + 1) ≡ le w y (i + 1) → ⊥) → sameBytes (drop (i + 1) x) (drop (i + 1) y) ≡ false) → (t : Bool) → eqb (getD x i 0) (getD y i 0) ≡ t → sameBytes (drop i x) (drop i y) ≡ false
+    go : ((unsigned w x (i + 1) ≡ unsigned w y (i + 1) → ⊥) → sameBytes (drop (i + 1) x) (drop (i + 1) y) ≡ false) → (t : Bool) → eqb (getD x i 0) (getD y i 0) ≡ t → sameBytes (drop i x) (drop i y) ≡ false
     go up true f =
         let a : getD x i 0 ≡ getD y i 0 = eqb-true _ _ f in
         next-same x y i (omega arith) (omega arith) a ∙ up (λ e. d (omega (arith, a, e)))

@@ -5,7 +5,7 @@ use mathlib.Core.List.{List, [], _∷_}
 use mathlib.Core.Path.{_≡_}
 use lib.Dec.{eqb}
 use lib.ListN.{length, getD}
-use Rattle.fields.specs.Number.{le}
+use Rattle.fields.specs.Number.{unsigned}
 use Rattle.fields.specs.Layout.{nameIn}
 use Rattle.frames.specs.Frame.{recordOf}
 use Rattle.mates.specs.Register.{placeIn, matesOf}
@@ -19,7 +19,7 @@ digestFrom h [] = h
 digestFrom h (a ∷ []) = mixOf h a
 digestFrom h (a ∷ b ∷ []) = mixOf (mixOf h a) b
 digestFrom h (a ∷ b ∷ c ∷ []) = mixOf (mixOf (mixOf h a) b) c
-digestFrom h (a ∷ b ∷ c ∷ d ∷ l) = digestFrom (mixOf h (le 4 (a ∷ b ∷ c ∷ d ∷ l) 0)) l
+digestFrom h (a ∷ b ∷ c ∷ d ∷ l) = digestFrom (mixOf h (unsigned 4 (a ∷ b ∷ c ∷ d ∷ l) 0)) l
 
 -- records of one name and place have one key
 unfoldable pub keyIn : List ℕ → ℕ

@@ -8,7 +8,7 @@ use borrow.Author.Tests.{eq-eqb, ne-eqb}
 use Rattle.refusal.specs.declared.Refusal.{Refusal}
 use Rattle.refusal.specs.declared.Refusal.the-variants.{Strategy, CountsSlice}
 use Rattle.refusal.specs.Table.{codeOf}
-use Rattle.fields.specs.Number.{le, put}
+use Rattle.fields.specs.Number.{unsigned, put}
 use Rattle.fields.proofs.NumberLaws.{length-put, put-before, put-after, le-put, le-same}
 use Rattle.stats.specs.declared.CorrectionStats.{CorrectionStats}
 use Rattle.stats.specs.Room.{AtMost}
@@ -21,19 +21,19 @@ use Rattle.strategy.proofs.NumberLaws.{refused-is}
 use Rattle.positions.specs.Step.{State, state}
 use Rattle.pair.specs.declared.Answer.the-variants as Answers
 use Rattle.pair.specs.Pair.{Outcome, outcome, pairOf}
-use Rattle.overlap_c.specs.Call.{countsOf, withCounts, ended, called, onNumbered, callOf}
+use Rattle.overlap_c.specs.Call.{countsOf, withCounts, returned, called, withNumbers, callOf}
 
 module _ (a b : List ℕ) (m k : ℕ) (c : List ℕ) where
-  pub slice-wrong : (n : ℕ) → n ≡ codeOf CountsSlice → (length c ≡ 32 → ⊥) → ended n a b c ≡ callOf a b m k c
+  pub slice-wrong : (n : ℕ) → n ≡ codeOf CountsSlice → (length c ≡ 32 → ⊥) → returned n a b c ≡ callOf a b m k c
   unfolding callOf
-  slice-wrong n e h = rw (ne-eqb (length c) 32 h) (ap (λ (x : ℕ). ended x a b c) e)
+  slice-wrong n e h = rw (ne-eqb (length c) 32 h) (ap (λ (x : ℕ). returned x a b c) e)
 
   module _ (size : length c ≡ 32) (numbered : Numbered) (is : numbered ≡ numberedOf m k) where
-    pub numbers-wrong : (n : ℕ) (r : Refusal) → n ≡ codeOf Strategy → numbered ≡ Numbers.Refused r → ended n a b c ≡ callOf a b m k c
+    pub numbers-wrong : (n : ℕ) (r : Refusal) → n ≡ codeOf Strategy → numbered ≡ Numbers.Refused r → returned n a b c ≡ callOf a b m k c
     unfolding callOf
     numbers-wrong n r e f =
         let s : r ≡ Strategy = refused-is m k r (sym is ∙ f) in
-        rw (eq-eqb (length c) 32 size, sym is ∙ f) (ap (λ (x : ℕ). ended x a b c) (e ∙ ap codeOf (sym s)))
+        rw (eq-eqb (length c) 32 size, sym is ∙ f) (ap (λ (x : ℕ). returned x a b c) (e ∙ ap codeOf (sym s)))
 
     pub called-as : (w : Strategies) (g : CorrectionStats) (o : Outcome) → numbered ≡ Numbers.Are w → g ≡ countsOf c → o ≡ pairOf w (state a b g) → called c o ≡ callOf a b m k c
     unfolding callOf
@@ -42,17 +42,17 @@ module _ (a b : List ℕ) (m k : ℕ) (c : List ℕ) where
 
 -- the answer's three cases
 module _ (c : List ℕ) (o : Outcome) where
-  pub called-none : o .answer ≡ Answers.NoOverlap → ended 0 (o .after .first) (o .after .second) c ≡ called c o
+  pub called-none : o .answer ≡ Answers.NoOverlap → returned 0 (o .after .first) (o .after .second) c ≡ called c o
   called-none e = rw e
 
-  pub called-overlap : (d : List ℕ) → o .answer ≡ Answers.Overlap → d ≡ withCounts c (o .after .stats) → ended 1 (o .after .first) (o .after .second) d ≡ called c o
-  called-overlap d e f = rw e (ap (ended 1 (o .after .first) (o .after .second)) f)
+  pub called-overlap : (d : List ℕ) → o .answer ≡ Answers.Overlap → d ≡ withCounts c (o .after .stats) → returned 1 (o .after .first) (o .after .second) d ≡ called c o
+  called-overlap d e f = rw e (ap (returned 1 (o .after .first) (o .after .second)) f)
 
-  pub called-refused : (r : Refusal) (n : ℕ) → o .answer ≡ Answers.Refused r → n ≡ codeOf r → ended n (o .after .first) (o .after .second) c ≡ called c o
-  called-refused r n e f = rw e (ap (λ (x : ℕ). ended x (o .after .first) (o .after .second) c) f)
+  pub called-refused : (r : Refusal) (n : ℕ) → o .answer ≡ Answers.Refused r → n ≡ codeOf r → returned n (o .after .first) (o .after .second) c ≡ called c o
+  called-refused r n e f = rw e (ap (λ (x : ℕ). returned x (o .after .first) (o .after .second) c) f)
 
 -- a number is read as it was where another is written before or after it
-apart : (s : List ℕ) (at v from : ℕ) → (at + 8 ≤ from) → le 8 (put 8 s from v) at ≡ le 8 s at
+apart : (s : List ℕ) (at v from : ℕ) → (at + 8 ≤ from) → unsigned 8 (put 8 s from v) at ≡ unsigned 8 s at
 apart s at v from h = le-same 8 (put 8 s from v) s at (λ k lo hi. put-before 8 s from v k (omega arith))
 
 -- the counts that were written are read

@@ -7,7 +7,7 @@ use lib.Dec.{eqb}
 use Rattle.refusal.specs.declared.Refusal.{Refusal}
 use Rattle.refusal.specs.declared.Refusal.the-variants.{CountsSlice}
 use Rattle.refusal.specs.Table.{codeOf}
-use Rattle.fields.specs.Number.{le, put}
+use Rattle.fields.specs.Number.{unsigned, put}
 use Rattle.stats.specs.declared.CorrectionStats.{CorrectionStats}
 use Rattle.stats.specs.Counts.{counts}
 use Rattle.strategy.specs.declared.Numbered.{Numbered}
@@ -20,20 +20,20 @@ use Rattle.pair.specs.Pair.{Outcome, pairOf, answerCode}
 
 -- overlapping, agreeing, disagreeing, corrected: 8 bytes each
 abbrev pub countsOf : List ℕ → CorrectionStats
-countsOf c = counts (le 8 c 0) (le 8 c 8) (le 8 c 16) (le 8 c 24)
+countsOf c = counts (unsigned 8 c 0) (unsigned 8 c 8) (unsigned 8 c 16) (unsigned 8 c 24)
 
 abbrev pub withCounts : List ℕ → CorrectionStats → List ℕ
 withCounts c g = put 8 (put 8 (put 8 (put 8 c 0 (g .overlapping)) 8 (g .agreeing)) 16 (g .disagreeing)) 24 (g .corrected)
 
 -- the answer and the three slices after the call
-pub record Ended : Type 0 where
+pub record Returned : Type 0 where
   pub answer : ℕ
   pub first : List ℕ
   pub second : List ℕ
   pub counts : List ℕ
 
-abbrev pub ended : ℕ → List ℕ → List ℕ → List ℕ → Ended
-ended r a b c = record { answer = r; first = a; second = b; counts = c }
+abbrev pub returned : ℕ → List ℕ → List ℕ → List ℕ → Returned
+returned r a b c = record { answer = r; first = a; second = b; counts = c }
 
 -- counts are written for an overlap alone
 abbrev pub countsAfter : Answer → List ℕ → CorrectionStats → List ℕ
@@ -41,13 +41,13 @@ countsAfter Answers.NoOverlap c g = c
 countsAfter Answers.Overlap c g = withCounts c g
 countsAfter (Answers.Refused r) c g = c
 
-abbrev pub called : List ℕ → Outcome → Ended
-called c o = ended (answerCode (o .answer)) (o .after .first) (o .after .second) (countsAfter (o .answer) c (o .after .stats))
+abbrev pub called : List ℕ → Outcome → Returned
+called c o = returned (answerCode (o .answer)) (o .after .first) (o .after .second) (countsAfter (o .answer) c (o .after .stats))
 
-abbrev pub onNumbered : List ℕ → List ℕ → List ℕ → Numbered → Ended
-onNumbered a b c (Numbers.Are w) = called c (pairOf w (state a b (countsOf c)))
-onNumbered a b c (Numbers.Refused r) = ended (codeOf r) a b c
+abbrev pub withNumbers : List ℕ → List ℕ → List ℕ → Numbered → Returned
+withNumbers a b c (Numbers.Are w) = called c (pairOf w (state a b (countsOf c)))
+withNumbers a b c (Numbers.Refused r) = returned (codeOf r) a b c
 
 -- the counts slice, then the strategy numbers, then the pair call
-unfoldable pub callOf : List ℕ → List ℕ → ℕ → ℕ → List ℕ → Ended
-callOf a b m k c = cond (eqb (length c) 32) (onNumbered a b c (numberedOf m k)) (ended (codeOf CountsSlice) a b c)
+unfoldable pub callOf : List ℕ → List ℕ → ℕ → ℕ → List ℕ → Returned
+callOf a b m k c = cond (eqb (length c) 32) (withNumbers a b c (numberedOf m k)) (returned (codeOf CountsSlice) a b c)

@@ -6,7 +6,7 @@ use strategy::Numbered;
 ghost use mathlib.Core.Path.{_≡_};
 ghost use Prim.Native.Nat.{ℕ, _<_, _≤_};
 ghost use lib.ListN.{length};
-ghost use Rattle.overlap_c.specs.Call.{countsOf, withCounts, ended, callOf};
+ghost use Rattle.overlap_c.specs.Call.{countsOf, withCounts, returned, callOf};
 
 // The four counts of a slice of 32 bytes.
 fn counts_of(s: &[u8]) -> CorrectionStats
@@ -42,7 +42,7 @@ pub extern "C" fn overlap_call(
     disagreement: u32,
     counts: &mut [u8],
 ) -> u32
-    ensures { λ r. ⌜ ended r (now (first .exit)) (now (second .exit)) (now (counts .exit)) ≡ callOf (now (first .entry)) (now (second .entry)) agreement disagreement (now (counts .entry)) ⌝ }
+    ensures { λ r. ⌜ returned r (now (first .exit)) (now (second .exit)) (now (counts .exit)) ≡ callOf (now (first .entry)) (now (second .entry)) agreement disagreement (now (counts .entry)) ⌝ }
 {
     if counts.len() != 32 {
         return Refusal::CountsSlice.code();

@@ -39,7 +39,7 @@ use Rattle.pair.specs.declared.Answer.{Answer}
 use Rattle.pair.specs.declared.Answer.the-variants as Answers
 use Rattle.judgement.specs.Judgement.{onSpan, spanIn, mappedOf, judgedOf}
 use Rattle.pair.specs.Pair.{Outcome, outcome, answerOf, onJudged, onGood, recordsOf, pairOf}
-use Rattle.pair.specs.Promise.{Accepted, Aligned, fromOne, Overlaps, Kept}
+use Rattle.pair.specs.Promise.{NotRefused, Aligned, fromOne, Overlaps, Kept}
 use Rattle.judgement.proofs.TreatLaws.{spanned, both-known, nothing-shared}
 
 -- ---- a refusal, or "no overlap", leaves all as it was
@@ -101,7 +101,7 @@ good-layout s p y e =
     let g = good-sound s p y e in
     (g .layout, subst (λ (x : Layout). Sound s x) (g .layout) g)
 
-pub passed : (w : Strategies) (s : State) (o : Outcome) → pairOf w s ≡ o → Accepted o → Passed w s o
+pub passed : (w : Strategies) (s : State) (o : Outcome) → pairOf w s ≡ o → NotRefused o → Passed w s o
 unfolding pairOf recordsOf
 passed w s o e n = on-full (full (s .stats)) e
   where
@@ -172,7 +172,7 @@ module _ (w : Strategies) (s : State) where
         corrected = promised w y z (fromOne p) (fromOne q) s (record { first = g .lies; second = h .lies });
       }
 
-  pub promise : (o : Outcome) → pairOf w s ≡ o → Accepted o → (al : Aligned (s .first) (s .second)) → Kept w s o (al .pos₁) (al .pos₂)
+  pub promise : (o : Outcome) → pairOf w s ≡ o → NotRefused o → (al : Aligned (s .first) (s .second)) → Kept w s o (al .pos₁) (al .pos₂)
   promise o e n al =
       let m = passed w s o e n in
       first-span (m .first) (m .second) (spanIn y (s .first) (al .pos₁) 1) refl

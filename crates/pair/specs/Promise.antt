@@ -17,8 +17,8 @@ use Rattle.pair.specs.declared.Answer.the-variants as Answers
 use Rattle.pair.specs.Pair.{Outcome}
 
 -- the call isn't refused
-abbrev pub Accepted : Outcome → Type 0
-Accepted o = (r : Refusal) → o .answer ≡ Answers.Refused r → ⊥
+abbrev pub NotRefused : Outcome → Type 0
+NotRefused o = (r : Refusal) → o .answer ≡ Answers.Refused r → ⊥
 
 -- both records are mapped, on one reference id, and their positions are not negative
 pub record Aligned (a b : List ℕ) : Type 0 where

@@ -36,7 +36,7 @@ use Rattle.frames.specs.Frame.{recordOf}
 use Rattle.verdicts.specs.declared.Verdict.{Verdict}
 use Rattle.verdicts.specs.declared.Verdict.the-variants.{Passed, Refused}
 use Rattle.verdicts.specs.Judged.{indexOf, atIndex, answered, verdictAt, onVerdict, judgeBy}
-use Rattle.verdicts.specs.Indexed.{onChecked, ofJudged, indexedOf, indexedAt}
+use Rattle.verdicts.specs.Indexed.{onSound, ofJudged, indexedOf, indexedAt}
 
 module _ (i j : ℕ) where
   -- each answer with its refusal named by the index
@@ -146,11 +146,11 @@ module _ (i j : ℕ) where
         third y z Judge.Apart = refl
         third y z (Judge.Both p q) = shared-passes (shared y z (p .start) (q .start) a b)
 
-        second : (y : Layout) (k : Checked) → onChecked (checkedAt k) (λ z. ofJudged (judgedOf y z a b i j)) ≡ answered i j (onGood k s (λ z. onJudged w y z s (judgedOf y z a b 1 2)) .answer)
+        second : (y : Layout) (k : Checked) → onSound (checkedAt k) (λ z. ofJudged (judgedOf y z a b i j)) ≡ answered i j (onGood k s (λ z. onJudged w y z s (judgedOf y z a b 1 2)) .answer)
         second y (Good z) = ap ofJudged (judged-of-at y z a b) ∙ third y z (judgedOf y z a b 1 2)
         second y (Bad r) = refl
 
-        first : (k : Checked) → onChecked (checkedAt k) (λ y. onChecked (checkedAt (checkOf b 2)) (λ z. ofJudged (judgedOf y z a b i j)))
+        first : (k : Checked) → onSound (checkedAt k) (λ y. onSound (checkedAt (checkOf b 2)) (λ z. ofJudged (judgedOf y z a b i j)))
             ≡ answered i j (onGood k s (λ y. onGood (checkOf b 2) s (λ z. onJudged w y z s (judgedOf y z a b 1 2))) .answer)
         first (Good y) = second y (checkOf b 2)
         first (Bad r) = refl

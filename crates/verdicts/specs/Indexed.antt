@@ -12,9 +12,9 @@ use Rattle.frames.specs.Frame.{recordOf}
 use Rattle.verdicts.specs.declared.Verdict.{Verdict}
 use Rattle.verdicts.specs.declared.Verdict.the-variants.{Passed, Refused}
 
-abbrev pub onChecked : Checked → (Layout → Verdict) → Verdict
-onChecked (Good y) rest = rest y
-onChecked (Bad r) rest = Refused r
+abbrev pub onSound : Checked → (Layout → Verdict) → Verdict
+onSound (Good y) rest = rest y
+onSound (Bad r) rest = Refused r
 
 abbrev pub ofChecked : Checked → Verdict
 ofChecked (Good y) = Passed
@@ -26,7 +26,7 @@ ofJudged Judge.Apart = Passed
 ofJudged (Judge.Both p q) = Passed
 
 unfoldable pub indexedOf : List ℕ → List ℕ → ℕ → ℕ → Verdict
-indexedOf a b i j = onChecked (checkOf a i) (λ y. onChecked (checkOf b j) (λ z. ofJudged (judgedOf y z a b i j)))
+indexedOf a b i j = onSound (checkOf a i) (λ y. onSound (checkOf b j) (λ z. ofJudged (judgedOf y z a b i j)))
 
 abbrev pub indexedAt : List ℕ → ℕ → ℕ → Verdict
 indexedAt s i j = indexedOf (recordOf s i) (recordOf s j) i j

@@ -6,14 +6,14 @@ use Rattle.cigar.specs.declared.Cursor.{Cursor}
 use lib.ListN.{length, take}
 use lib.Seq.{length-take-le}
 use denote.Ref.{now}
-use Rattle.cigar.specs.Passing.{Kept, tookOperation}
+use Rattle.cigar.specs.Passing.{SameBases, tookOperation}
 use Rattle.cigar.proofs.PlaceLaws.{ops-short}
 use Rattle.cigar.proofs.CursorLaws.{kept-refl, kept-trans, kept-stands, took-kept, took-past}
 use Rattle.cigar.proofs.settle.Statement.{statement}
 use Rattle.cigar.proofs.settle.Tie as tie
 
 abbrev Inv-loop : tie.InvT-loop
-Inv-loop s end cur₀ cur = (cur .at ≤ end) × Kept (take end s) cur₀ cur
+Inv-loop s end cur₀ cur = (cur .at ≤ end) × SameBases (take end s) cur₀ cur
 
 abbrev μ-loop : tie.MeasureT-loop
 μ-loop s end cur₀ cur = end - cur .at

@@ -1,7 +1,7 @@
 -- `fields::l_read_name` meets its contract: one byte holds itself. Assumes nothing.
 use native.Mathlib.Omega.{arith}
 use borrow.Author.Needs.{needs}
-use Rattle.fields.specs.Number.{le}
+use Rattle.fields.specs.Number.{unsigned}
 use Rattle.fields.proofs.l_read_name.Statement.{statement}
 use Rattle.fields.proofs.l_read_name.Tie as tie
 
@@ -9,7 +9,7 @@ shared-slice-read-result : tie.Need-shared-slice-read-result
 shared-slice-read-result c = search needs
 
 returns : tie.Need-returns
-unfolding le
+unfolding unsigned
 returns c = omega arith
 
 pub l-read-name-spec : {M : Type 1} → statement M

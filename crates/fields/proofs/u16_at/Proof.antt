@@ -1,7 +1,7 @@
 -- `fields::u16_at` meets its contract: two bytes hold the first, and 256 times the second. Assumes nothing.
 use native.Mathlib.Omega.{arith}
 use borrow.Author.Needs.{needs}
-use Rattle.fields.specs.Number.{le}
+use Rattle.fields.specs.Number.{unsigned}
 use Rattle.fields.proofs.u16_at.Statement.{statement}
 use Rattle.fields.proofs.u16_at.Tie as tie
 
@@ -27,7 +27,7 @@ add-result : tie.Need-add-result
 add-result c = search needs
 
 returns : tie.Need-returns
-unfolding le
+unfolding unsigned
 returns c = omega arith
 
 pub u16-at-spec : {M : Type 1} → statement M
