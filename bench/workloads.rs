@@ -1,30 +1,9 @@
 //! The workloads, from a seed: the same bytes on every machine.
 
-pub struct Rng(u64);
-impl Rng {
-    pub fn new(seed: u64) -> Self {
-        Rng(seed)
-    }
-    pub fn next(&mut self) -> u64 {
-        // splitmix64
-        self.0 = self.0.wrapping_add(0x9E37_79B9_7F4A_7C15);
-        let mut z = self.0;
-        z = (z ^ (z >> 30)).wrapping_mul(0xBF58_476D_1CE4_E5B9);
-        z = (z ^ (z >> 27)).wrapping_mul(0x94D0_49BB_1331_11EB);
-        z ^ (z >> 31)
-    }
-    /// 0..n
-    pub fn below(&mut self, n: u64) -> u64 {
-        ((self.next() >> 32) * n) >> 32
-    }
-    /// a..=b
-    pub fn range(&mut self, a: i64, b: i64) -> i64 {
-        a + self.below((b - a + 1) as u64) as i64
-    }
-    pub fn chance(&mut self, per_million: u64) -> bool {
-        self.below(1_000_000) < per_million
-    }
-}
+#[path = "../oracle/judge/rng.rs"]
+#[allow(dead_code)]
+mod rng;
+use rng::Rng;
 
 pub const M: u32 = 0;
 pub const I: u32 = 1;
@@ -153,14 +132,14 @@ pub fn sequence(
         }
     }
     for b in codes.iter_mut() {
-        if rng.chance(err) {
+        if rng.below(1_000_000) < err {
             let mut o = 1u8 << rng.below(4);
             while o == *b {
                 o = 1u8 << rng.below(4);
             }
             *b = o;
         }
-        if rng.chance(n_rate) {
+        if rng.below(1_000_000) < n_rate {
             *b = 15;
         }
     }
@@ -174,7 +153,7 @@ pub fn ref_len(cigar: &[(u32, u32)]) -> i64 {
 
 /// 90% plain, the rest with a soft clip, an insertion, a deletion or a mix.
 fn short_cigar(rng: &mut Rng, len: u32) -> Vec<(u32, u32)> {
-    if rng.chance(900_000) {
+    if rng.below(1_000_000) < 900_000 {
         return vec![(M, len)];
     }
     let a = rng.range(10, len as i64 - 40) as u32;
@@ -226,7 +205,7 @@ fn heavy_cigar(rng: &mut Rng, len: u32, ops: usize) -> Vec<(u32, u32)> {
     let mut v = Vec::new();
     let mut last = 0;
     for (i, &c) in cut.iter().enumerate() {
-        v.push((if rng.chance(300_000) { EQ } else { M }, c - last + 1));
+        v.push((if rng.below(1_000_000) < 300_000 { EQ } else { M }, c - last + 1));
         last = c;
         if i < between.len() {
             v.push(between[i]);
@@ -243,7 +222,7 @@ fn long_cigar(rng: &mut Rng, len: u32, gap: u32) -> Vec<(u32, u32)> {
         let k = rng.range(1, 3) as u32;
         v.push((M, m));
         left -= m;
-        if rng.chance(500_000) {
+        if rng.below(1_000_000) < 500_000 {
             v.push((I, k));
             left -= k;
         } else {
@@ -406,7 +385,7 @@ pub fn group(n: usize, r: &mut Rng, rf: &[u8]) -> Vec<Vec<u8>> {
         // a secondary or supplementary copy under a name that is there
         let i = r.below(out.len() as u64) as usize;
         let mut c = out[i].clone();
-        c[15] |= if r.chance(500_000) { 1 } else { 8 };
+        c[15] |= if r.below(1_000_000) < 500_000 { 1 } else { 8 };
         out.push(c);
     }
     for i in (1..out.len()).rev() {
