@@ -11,7 +11,7 @@ ghost use Rattle.fields.specs.Number.{unsigned};
 ghost use Rattle.fields.specs.Sound.{Lies};
 ghost use Rattle.cigar.specs.Operation.{readLen, refLen, operations};
 ghost use Rattle.cigar.specs.Judge.{walkOf, operationsOf, spanOf};
-ghost use Rattle.cigar.specs.Passing.{runLen, tookOperation, advanced, Stands, Settled};
+ghost use Rattle.cigar.specs.Passing.{cursor, runLen, tookOperation, advanced, Stands, Settled};
 
 // Which codes use the read, and which the reference: bit c for code c. Codes 0 to 8 are
 // M I D N S H P = X.
@@ -169,7 +169,7 @@ fn take_operation(s: &[u8], end: usize, c: Cursor) -> Cursor
 }
 
 // The cursor with a base at hand, unless there is none left.
-pub fn settle(s: &[u8], end: usize, c: Cursor) -> Cursor
+fn settle(s: &[u8], end: usize, c: Cursor) -> Cursor
     requires { ⌜ (end ≤ length (now s)) × Stands (take end (now s)) c ⌝ }
     ensures { λ r. ⌜ Settled (take end (now (s .entry))) c r ⌝ }
 {
@@ -182,6 +182,26 @@ pub fn settle(s: &[u8], end: usize, c: Cursor) -> Cursor
         cur = take_operation(s, end, cur);
     }
     cur
+}
+
+// The cursor with the first base of an alignment at hand, unless it has none.
+pub fn begin(s: &[u8], y: Layout, start: RefPos) -> Cursor
+    requires { ⌜ (y .bases ≤ length (now s)) × Stands (take (y .bases) (now s)) (cursor (y .operations) 0 (start .0) 0) ⌝ }
+    ensures { λ r. ⌜ Settled (take (y .bases) (now (s .entry))) (cursor (y .operations) 0 (start .0) 0) r ⌝ }
+{
+    let at = y.operations;
+    let end = y.bases;
+    let from = start.0;
+    settle(
+        s,
+        end,
+        Cursor {
+            at,
+            offset: ReadOffset(0),
+            position: RefPos(from),
+            left: 0,
+        },
+    )
 }
 
 // The cursor with `d` bases of its run passed.

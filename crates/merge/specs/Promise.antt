@@ -14,7 +14,6 @@ use Rattle.fields.specs.Among.{Among}
 use Rattle.positions.specs.Step.{State, Job, Rising, Becomes, growths}
 use Rattle.cigar.specs.Operation.{opsIn}
 
-
 -- base i of the first record and base j of the second sit at one position
 pub record Share (y z : Layout) (p q : RefPos) (s : State) (i j : ReadOffset) : Type 0 where
   pub at : RefPos

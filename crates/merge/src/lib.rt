@@ -1,6 +1,5 @@
 // The walk over the shared positions of two records: two cursors, one over each alignment, and every
 // run of positions at which both records have a base.
-use cigar::Cursor;
 use fields::Layout;
 use fields::ReadOffset;
 use fields::RefPos;
@@ -45,26 +44,8 @@ pub fn merge(
     let ze = z.bases;
     let from1 = p.0;
     let from2 = q.0;
-    let mut a = cigar::settle(
-        first,
-        ye,
-        Cursor {
-            at: y.operations,
-            offset: ReadOffset(0),
-            position: RefPos(from1),
-            left: 0,
-        },
-    );
-    let mut b = cigar::settle(
-        second,
-        ze,
-        Cursor {
-            at: z.operations,
-            offset: ReadOffset(0),
-            position: RefPos(from2),
-            left: 0,
-        },
-    );
+    let mut a = cigar::begin(first, y, RefPos(from1));
+    let mut b = cigar::begin(second, z, RefPos(from2));
     let mut met = 0;
     let mut h = g;
     while a.left != 0 {

@@ -17,24 +17,24 @@ Inv-loop w first₀ second₀ y z ye ze from1 from2 a₀ b₀ met₀ h₀ first 
 abbrev μ-loop : tie.MeasureT-loop
 μ-loop w first₀ second₀ y z ye ze from1 from2 a₀ b₀ met₀ h₀ first second a b met h = (e₁ w y z (record { 0 = from1 }) (record { 0 = from2 }) (state first₀ second₀ h₀) - a .position .0) + (e₂ w y z (record { 0 = from1 }) (record { 0 = from2 }) (state first₀ second₀ h₀) - b .position .0)
 
-settle-requires : tie.Need-settle-requires Inv-loop μ-loop
-settle-requires c κs =
+begin-requires : tie.Need-begin-requires Inv-loop μ-loop
+begin-requires c κs =
     let entry = c .before .before .before in
     let args = entry .args in
     start-stands (args .y) (args .p) (now (args .first)) (entry .pre .0) (entry .pre .2)
 
-settle-requires-2 : tie.Need-settle-requires-2 Inv-loop μ-loop
-settle-requires-2 c κs =
+begin-requires-2 : tie.Need-begin-requires-2 Inv-loop μ-loop
+begin-requires-2 c κs =
     let entry = c .before .before .before .before .before in
     let args = entry .args in
     start-stands (args .z) (args .q) (now (args .second)) (entry .pre .1) (entry .pre .3)
 
 loop-holds : tie.Need-loop-holds Inv-loop μ-loop
 loop-holds c =
-    let by-settle = c .before .before in
-    let entry = by-settle .before .before .before .before in
+    let by-begin = c .before .before in
+    let entry = by-begin .before .before .before .before in
     let args = entry .args in
-    merging-start (args .w) (args .y) (args .z) (args .p) (args .q) (state (now (args .first)) (now (args .second)) (args .g)) (by-settle .settle .result) (c .settle2 .result) (entry .pre .2) (entry .pre .3) (entry .pre .4) (by-settle .settle .ensures) (c .settle2 .ensures)
+    merging-start (args .w) (args .y) (args .z) (args .p) (args .q) (state (now (args .first)) (now (args .second)) (args .g)) (by-begin .begin .result) (c .begin2 .result) (entry .pre .2) (entry .pre .3) (entry .pre .4) (by-begin .begin .ensures) (c .begin2 .ensures)
 
 same-length : tie.Need-same-length Inv-loop μ-loop
 same-length c = c .before .before .before .before .loop .inv .first
@@ -202,8 +202,8 @@ merge-spec =
     (tie.spec
     Inv-loop
     μ-loop
-    settle-requires
-    settle-requires-2
+    begin-requires
+    begin-requires-2
     loop-holds
     same-length
     same-length-2
