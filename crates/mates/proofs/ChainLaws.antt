@@ -14,7 +14,7 @@ use lib.Seq.{getD-set-same, getD-set-other}
 use Rattle.fields.specs.Layout.{nameIn}
 use Rattle.frames.specs.Frame.{recordOf}
 use Rattle.mates.specs.Register.{placeIn, placeAt, nameAt, sameBytes, fits, holder}
-use Rattle.mates.specs.Table.{digestFrom, keyIn, Keyed, chainOf, lastIn, Chained}
+use Rattle.mates.specs.Table.{digestOf, keyIn, Keyed, chainOf, lastIn, Chained}
 use Rattle.mates.proofs.NameLaws.{and-true, same-true}
 use Rattle.mates.proofs.KeyLaws.{place-small, holder-no}
 
@@ -42,7 +42,7 @@ pub fits-chain : (x y : List ℕ) (kx ky q : ℕ) → kx ≡ keyIn x → ky ≡ 
 unfolding keyIn
 fits-chain x y kx ky q ex ey t =
     let p = and-true (eqb (placeIn x) q) (sameBytes (nameIn x) (nameIn y)) t in
-    let e : kx / 4 ≡ ky / 4 = omega (arith, ex, ey, place-small x, place-small y, ap (digestFrom 0) (same-true (nameIn x) (nameIn y) (p .1))) in
+    let e : kx / 4 ≡ ky / 4 = omega (arith, ex, ey, place-small x, place-small y, ap digestOf (same-true (nameIn x) (nameIn y) (p .1))) in
     ap (λ (z : ℕ). z / 16777216 % 256) e
 
 module _ (s key : List ℕ) (n : ℕ) (u : Keyed s key n) (q i : ℕ) (below : i < n) where

@@ -1,51 +1,40 @@
 -- Keys of records, and the record that has a registration.
 use Prim.Native.Nat.{ℕ, zero, suc, _+_, _-_, _*_, _/_, _%_, _<_, _≤_}
 use mathlib.Core.Path.{_≡_, refl, sym, _∙_, ap}
-use mathlib.Core.List.{List, [], _∷_}
+use mathlib.Core.List.{List}
 use mathlib.Core.Bool.{Bool, true, false, cond, _&&_, _||_}
-use native.Mathlib.Numerals.{add-one, add-four}
+use native.Mathlib.Numerals.{add-one}
 use native.Mathlib.Omega.{arith}
-use borrow.Author.Tests.{eqb-true, eq-eqb, ne-eqb}
+use borrow.Author.Tests.{eqb-true, eq-eqb, ne-eqb, lt-ltb, le-ltb}
 use lib.Dec.{eqb}
-use lib.ListN.{length, getD, drop, drop-of-length-le, length-drop}
-use lib.Seq.{drop-cons}
+use lib.ListN.{length, getD}
 use Rattle.fields.specs.Number.{unsigned}
 use Rattle.fields.specs.Flag.{hasBit}
 use Rattle.fields.specs.Layout.{header, nameIn}
 use Rattle.mates.specs.Register.{placeBy, placeIn, nameAt, sameBytes, fits, holder, mateOf}
-use Rattle.mates.specs.Table.{mixOf, digestFrom, keyIn}
-use Rattle.mates.proofs.NameLaws.{and-true, same-true, same-refl}
+use Rattle.mates.specs.Table.{mixOf, mixed, digestOf, keyIn}
+use Rattle.mates.proofs.NameLaws.{same-true, same-refl}
 
--- ---- the digest, by the turns of its two loops
-next-word : (h i : ℕ) (x : List ℕ) → i + 4 ≤ length x → digestFrom (mixOf h (unsigned 4 x i)) (drop (i + 4) x) ≡ digestFrom h (drop i x)
-unfolding digestFrom unsigned
-next-word h i x l =
-    let h0 : i < length x = omega arith in
-    let h1 : suc i < length x = omega arith in
-    let h2 : suc (suc i) < length x = omega arith in
-    let h3 : suc (suc (suc i)) < length x = omega arith in
-    simp (add-one, add-four)
-    (rw (drop-cons x i 0 h0, drop-cons x (suc i) 0 h1, drop-cons x (suc (suc i)) 0 h2, drop-cons x (suc (suc (suc i))) 0 h3))
+-- ---- the digest, by the turns of its loops
+pub mixed-next : (w h n i k m : ℕ) (x : List ℕ) → k ≡ suc m → n ≡ unsigned w x i → mixed w h x i k ≡ mixed w (mixOf h n) x (i + w) m
+unfolding mixed
+mixed-next w h n i k m x e f = rw (e, f)
 
-pub digest-word : (h i v w d : ℕ) (x : List ℕ) → i + 4 ≤ length x → w ≡ unsigned 4 x i → v ≡ mixOf h w → digestFrom h (drop i x) ≡ d → digestFrom v (drop (i + 4) x) ≡ d
-digest-word h i v w d x l ew ev e = ap (λ (z : ℕ). digestFrom z (drop (i + 4) x)) (ev ∙ ap (mixOf h) ew) ∙ next-word h i x l ∙ e
+pub mixed-end : (w h i k : ℕ) (x : List ℕ) → k ≡ 0 → mixed w h x i k ≡ h
+unfolding mixed
+mixed-end w h i k x e = rw e
 
-last-byte : (h b : ℕ) (l : List ℕ) → length l < 3 → digestFrom (mixOf h b) l ≡ digestFrom h (b ∷ l)
-unfolding digestFrom
-last-byte h b [] k = refl
-last-byte h b (c ∷ []) k = refl
-last-byte h b (c ∷ d ∷ []) k = refl
-last-byte h b (c ∷ d ∷ e ∷ l) k = absurd (omega arith)
+pub one-byte : (x : List ℕ) (i : ℕ) → getD x i 0 ≡ unsigned 1 x i
+unfolding unsigned
+one-byte x i = omega arith
 
-next-byte : (h i : ℕ) (x : List ℕ) → i < length x → length x - i < 4 → digestFrom (mixOf h (getD x i 0)) (drop (i + 1) x) ≡ digestFrom h (drop i x)
-next-byte h i x l k = rw (add-one, drop-cons x i 0 l) (last-byte h (getD x i 0) (drop (suc i) x) (rw length-drop (omega arith)))
+pub digest-short : (x : List ℕ) → length x < 8 → mixed 1 0 x 0 (length x) ≡ digestOf x
+unfolding digestOf
+digest-short x h = rw (lt-ltb (length x) 8 h)
 
-pub digest-byte : (h i v w d : ℕ) (x : List ℕ) → i < length x → length x - i < 4 → w ≡ getD x i 0 → v ≡ mixOf h w → digestFrom h (drop i x) ≡ d → digestFrom v (drop (i + 1) x) ≡ d
-digest-byte h i v w d x l k ew ev e = ap (λ (z : ℕ). digestFrom z (drop (i + 1) x)) (ev ∙ ap (mixOf h) ew) ∙ next-byte h i x l k ∙ e
-
-pub digest-end : (h i : ℕ) (x : List ℕ) → length x ≤ i → h ≡ digestFrom h (drop i x)
-unfolding digestFrom
-digest-end h i x l = rw (drop-of-length-le x l)
+pub digest-long : (x : List ℕ) (h n : ℕ) → 8 ≤ length x → h ≡ mixed 8 0 x 0 (length x / 8) → n ≡ unsigned 8 x (length x - 8) → mixOf h n ≡ digestOf x
+unfolding digestOf
+digest-long x h n k e f = rw (le-ltb (length x) 8 k, e, f)
 
 cond-small : (t : Bool) (a b : ℕ) → a < 3 → b < 3 → cond t a b < 3
 cond-small true a b h k = h
@@ -65,7 +54,7 @@ module _ (x y : List ℕ) (kx ky q : ℕ) (ex : kx ≡ keyIn x) (ey : ky ≡ key
   not-fits h = go (eqb (placeIn x) q) refl (sameBytes (nameIn x) (nameIn y)) refl
     where
       go : (t : Bool) → eqb (placeIn x) q ≡ t → (u : Bool) → sameBytes (nameIn x) (nameIn y) ≡ u → false ≡ (t && u)
-      go true e true f = absurd (h (omega (arith, ex, ey, eqb-true (placeIn x) q e, ap (digestFrom 0) (same-true (nameIn x) (nameIn y) f), place-small y)))
+      go true e true f = absurd (h (omega (arith, ex, ey, eqb-true (placeIn x) q e, ap digestOf (same-true (nameIn x) (nameIn y) f), place-small y)))
       go true e false f = refl
       go false e true f = refl
       go false e false f = refl

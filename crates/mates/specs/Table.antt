@@ -1,29 +1,31 @@
 -- What the tables hold by which mates are found.
-use Prim.Native.Nat.{ℕ, zero, suc, _+_, _*_, _/_, _%_, _<_, _≤_}
+use Prim.Native.Nat.{ℕ, zero, suc, _+_, _-_, _*_, _/_, _%_, _<_, _≤_}
 use mathlib.Core.Bool.{cond}
 use mathlib.Core.List.{List, [], _∷_}
 use mathlib.Core.Path.{_≡_}
-use lib.Dec.{eqb}
+use lib.Dec.{eqb, ltb}
 use lib.ListN.{length, getD}
 use Rattle.fields.specs.Number.{unsigned}
 use Rattle.fields.specs.Layout.{nameIn}
 use Rattle.frames.specs.Frame.{recordOf}
 use Rattle.mates.specs.Register.{placeIn, matesOf}
 
--- a digest of a name, below 2 ^ 62: of its words of four bytes, then of the bytes that are left
+-- a digest of a name, below 2 ^ 62
 abbrev pub mixOf : ℕ → ℕ → ℕ
-mixOf h w = (h % 137438953472 + w) * 10368889
+mixOf h n = (h % 137438953472 + n % 137438953472 + n / 137438953472) * 10368889
 
-unfoldable pub digestFrom : ℕ → List ℕ → ℕ
-digestFrom h [] = h
-digestFrom h (a ∷ []) = mixOf h a
-digestFrom h (a ∷ b ∷ []) = mixOf (mixOf h a) b
-digestFrom h (a ∷ b ∷ c ∷ []) = mixOf (mixOf (mixOf h a) b) c
-digestFrom h (a ∷ b ∷ c ∷ d ∷ l) = digestFrom (mixOf h (unsigned 4 (a ∷ b ∷ c ∷ d ∷ l) 0)) l
+-- the digest h with k more numbers of w bytes each, from byte i on
+unfoldable pub mixed : ℕ → ℕ → List ℕ → ℕ → ℕ → ℕ
+mixed w h x i zero = h
+mixed w h x i (suc k) = mixed w (mixOf h (unsigned w x i)) x (i + w) k
+
+-- of a name of eight bytes and more its eights and its last eight; of a shorter one its bytes
+unfoldable pub digestOf : List ℕ → ℕ
+digestOf x = cond (ltb (length x) 8) (mixed 1 0 x 0 (length x)) (mixOf (mixed 8 0 x 0 (length x / 8)) (unsigned 8 x (length x - 8)))
 
 -- records of one name and place have one key
 unfoldable pub keyIn : List ℕ → ℕ
-keyIn r = digestFrom 0 (nameIn r) * 4 + placeIn r
+keyIn r = digestOf (nameIn r) * 4 + placeIn r
 
 pub record Keyed (s key : List ℕ) (n : ℕ) : Type 0 where
   pub wide : 256 ≤ length key

@@ -8,7 +8,7 @@ ghost use Rattle.fields.specs.Layout.{layoutOf, header, nameIn};
 ghost use Rattle.fields.specs.Sound.{Sound};
 ghost use Rattle.frames.specs.Table.{Placed};
 ghost use Rattle.mates.specs.Register.{placeBy, placeIn, placeAt, nameAt, sameBytes, fits, holder, matesOf};
-ghost use Rattle.mates.specs.Table.{mixOf, digestFrom, keyIn, Keyed, chainOf, Chained, Mated};
+ghost use Rattle.mates.specs.Table.{mixOf, mixed, digestOf, keyIn, Keyed, chainOf, Chained, Mated};
 
 // The places that a record may register for; 0 is none.
 const FIRST: u64 = 1;
@@ -16,10 +16,10 @@ const FIRST: u64 = 1;
 const LAST: u64 = 2;
 
 // The byte as a wider number.
-fn wide(x: u8) -> u32
+fn wide(x: u8) -> u64
     ensures { λ r. ⌜ r ≡ x ⌝ }
 {
-    x as u32
+    x as u64
 }
 
 // The place that a record with these flags registers for.
@@ -70,28 +70,41 @@ fn name_of(r: &[u8]) -> &[u8]
     &r[32..end]
 }
 
-// The digest with one more word.
-fn mix(h: u64, w: u32) -> u64
-    ensures { λ r. ⌜ (r ≡ mixOf h w) × (r < 4611686018427387904) ⌝ }
+// The digest with one more number.
+fn mix(h: u64, n: u64) -> u64
+    ensures { λ r. ⌜ (r ≡ mixOf h n) × (r < 4611686018427387904) ⌝ }
 {
-    (h % 137438953472 + w as u64) * 10368889
+    (h % 137438953472 + n % 137438953472 + n / 137438953472) * 10368889
 }
 
-// The digest of a name: of its words of four bytes, then of the bytes that are left.
-fn digest(x: &[u8]) -> u64
-    ensures { λ r. ⌜ (r ≡ digestFrom 0 (now (x .entry))) × (r < 4611686018427387904) ⌝ }
+// The digest of a name of fewer than eight bytes.
+fn digest_bytes(x: &[u8]) -> u64
+    ensures { λ r. ⌜ (r ≡ mixed 1 0 (now (x .entry)) 0 (length (now (x .entry)))) × (r < 4611686018427387904) ⌝ }
 {
     let mut h: u64 = 0;
     let mut i = 0;
-    while 4 <= x.len() - i {
-        h = mix(h, fields::u32_at(x, i));
-        i += 4;
-    }
     while i < x.len() {
         h = mix(h, wide(x[i]));
         i += 1;
     }
     h
+}
+
+// The digest of a name: of its bytes eight at a time, and of the last eight.
+fn digest(x: &[u8]) -> u64
+    ensures { λ r. ⌜ (r ≡ digestOf (now (x .entry))) × (r < 4611686018427387904) ⌝ }
+{
+    let size = x.len();
+    if size < 8 {
+        return digest_bytes(x);
+    }
+    let mut h: u64 = 0;
+    let mut i = 0;
+    while 8 <= size - i {
+        h = mix(h, fields::u64_at(x, i));
+        i += 8;
+    }
+    mix(h, fields::u64_at(x, size - 8))
 }
 
 // The key of a sound record.

@@ -1,7 +1,7 @@
 -- `mates::key_of` meets its contract. Assumes nothing.
 use mathlib.Core.Path.{ap, ap₂, _∙_}
 use Prim.Native.Nat.{ℕ, _+_, _-_, _*_}
-use Rattle.mates.specs.Table.{digestFrom, keyIn}
+use Rattle.mates.specs.Table.{digestOf, keyIn}
 use borrow.Author.Needs.{needs}
 use Rattle.mates.proofs.key_of.Statement.{statement}
 use Rattle.mates.proofs.key_of.Tie as tie
@@ -23,7 +23,7 @@ add-result c = search needs
 
 returns : tie.Need-returns
 unfolding keyIn
-returns c = ap₂ (λ (x y : ℕ). x * 4 + y) (c .before .digest .ensures .0 ∙ ap (digestFrom 0) (c .before .before .name-of .ensures)) (c .place-of .ensures .0)
+returns c = ap₂ (λ (x y : ℕ). x * 4 + y) (c .before .digest .ensures .0 ∙ ap digestOf (c .before .before .name-of .ensures)) (c .place-of .ensures .0)
 
 pub key-of-spec : {M : Type 1} → statement M
 key-of-spec =
