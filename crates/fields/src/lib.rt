@@ -6,11 +6,11 @@ ghost use lib.ListN.{length};
 ghost use Rattle.fields.specs.Number.{unsigned, put, signed32};
 ghost use Rattle.fields.specs.Flag.{hasBit};
 ghost use Rattle.fields.specs.Placed.{placedOf, sameId};
-ghost use Rattle.fields.specs.Layout.{header};
+ghost use Rattle.fields.specs.Layout.{header, nameIn};
 ghost use Rattle.fields.specs.Check.{checkOf};
 
 // How many bytes a record has before its name.
-const FIXED: usize = 32;
+pub const FIXED: usize = 32;
 
 // How many bytes a record may have.
 const LONGEST: usize = 65536;
@@ -150,6 +150,19 @@ pub fn l_read_name(s: &[u8]) -> u8
     ensures { λ r. ⌜ r ≡ (header (now (s .entry))) .nameLength ⌝ }
 {
     s[8]
+}
+
+// The name without its closing byte, as a part of the record.
+pub fn name_of(s: &[u8]) -> &[u8]
+    requires { ⌜ 32 + (header (now s)) .nameLength ≤ length (now s) ⌝ }
+    ensures { λ r. ⌜ now r ≡ nameIn (now (s .entry)) ⌝ }
+{
+    let n = l_read_name(s) as usize;
+    if n == 0 {
+        return &s[FIXED..FIXED];
+    }
+    let end = FIXED + (n - 1);
+    &s[FIXED..end]
 }
 
 // How many operations the alignment has.

@@ -20,4 +20,4 @@ pub record Placed (s begins : List ℕ) (n : ℕ) : Type 0 where
 -- a group that is cut whole fills it
 abbrev pub Filled : List ℕ → List ℕ → Framing → Type 0
 Filled s begins (Whole n) = Placed s begins n
-Filled s begins (Broken r) = 0 ≤ 0
+Filled s begins (Broken r) = Unit {0}

@@ -81,7 +81,7 @@ fn group_framed(
 
 // The group call in room that the caller lends and that it leaves in any state: tables for 256
 // records, and a place for one.
-pub fn group_with(
+fn group_with(
     buf: &mut [u8],
     begins: &mut [usize; 257],
     key: &mut [u64; 256],

@@ -4,7 +4,7 @@ use fields::Flags;
 ghost use mathlib.Core.Path.{_≡_};
 ghost use Prim.Native.Nat.{ℕ, _+_, _-_, _<_, _≤_};
 ghost use lib.ListN.{length, getD};
-ghost use Rattle.fields.specs.Layout.{layoutOf, header, nameIn};
+ghost use Rattle.fields.specs.Layout.{layoutOf, nameIn};
 ghost use Rattle.fields.specs.Sound.{Sound};
 ghost use Rattle.frames.specs.Table.{Placed};
 ghost use Rattle.mates.specs.Register.{placeBy, placeIn, placeAt, nameAt, sameBytes, fits, holder, matesOf};
@@ -49,27 +49,6 @@ fn place_of(r: &[u8]) -> u64
     place_by(fields::flags_of(r))
 }
 
-// Where the name of a record ends.
-fn name_end(r: &[u8]) -> usize
-    requires { ⌜ 32 ≤ length (now r) ⌝ }
-    ensures { λ e. ⌜ (e ≡ 32 + ((header (now (r .entry))) .nameLength - 1)) × (32 ≤ e) ⌝ }
-{
-    let n = fields::l_read_name(r) as usize;
-    if n == 0 {
-        return 32;
-    }
-    31 + n
-}
-
-// The name of a sound record.
-fn name_of(r: &[u8]) -> &[u8]
-    requires { ⌜ Sound (now r) (layoutOf (now r)) ⌝ }
-    ensures { λ x. ⌜ now x ≡ nameIn (now (r .entry)) ⌝ }
-{
-    let end = name_end(r);
-    &r[32..end]
-}
-
 // The digest with one more number.
 fn mix(h: u64, n: u64) -> u64
     ensures { λ r. ⌜ (r ≡ mixOf h n) × (r < 4611686018427387904) ⌝ }
@@ -112,7 +91,7 @@ fn key_of(r: &[u8]) -> u64
     requires { ⌜ Sound (now r) (layoutOf (now r)) ⌝ }
     ensures { λ d. ⌜ d ≡ keyIn (now (r .entry)) ⌝ }
 {
-    let name = name_of(r);
+    let name = fields::name_of(r);
     let d = digest(name);
     d * 4 + place_of(r)
 }
@@ -145,7 +124,7 @@ fn same_name(x: &[u8], y: &[u8]) -> bool
     requires { ⌜ Sound (now x) (layoutOf (now x)) × Sound (now y) (layoutOf (now y)) ⌝ }
     ensures { λ r. ⌜ r ≡ sameBytes (nameIn (now (x .entry))) (nameIn (now (y .entry))) ⌝ }
 {
-    same(name_of(x), name_of(y))
+    same(fields::name_of(x), fields::name_of(y))
 }
 
 // Enters the key of each record.

@@ -1,7 +1,7 @@
 -- The whole answer, by the stages of the code.
 use Prim.Native.Nat.{ℕ, _+_, _-_, _<_, _≤_}
-use mathlib.Core.Path.{_≡_, refl, sym, ap, ap₂, _∙_}
-use mathlib.Core.List.{List, _++_, append-nil}
+use mathlib.Core.Path.{_≡_, refl, sym, ap, _∙_}
+use mathlib.Core.List.{List, [], _++_}
 use mathlib.Core.Option.{Option, none, some}
 use mathlib.Core.Logic.{⊎-elim}
 use native.Mathlib.Omega.{arith}
@@ -24,14 +24,15 @@ use Rattle.group.specs.declared.GroupAnswer.the-variants.{Done, Refused}
 use Rattle.group.specs.Group.{ended, onNumbered, groupOf}
 use Rattle.group.proofs.PromiseLaws.{refused-keeps}
 use Rattle.overlap_line.specs.Line.{doneText, refusalText}
-use Rattle.overlap_line.specs.Overlap.{numberAt, answerText, endedText, overlapOf}
+use Rattle.overlap_line.specs.Overlap.{numberAt, Output, alone, outputBy, outputOf, overlapOf}
 use Rattle.overlap_line.specs.Put.{Put}
 use Rattle.overlap_line.specs.Told.{Told}
 
 -- ---- a line and no group: the input is as it came
-told-line : (s out out′ t : List ℕ) (r : ℕ) → t ≡ overlapOf s → Put out 0 t out′ r → r ≤ 256 → Told s s s out out′ r 0
+told-line : (s out out′ t : List ℕ) (r : ℕ) → alone t ≡ overlapOf s → Put out 0 t out′ r → r ≤ 256 → Told s s s out out′ r 0
 told-line s out out′ t r e p h = record {
-  written = append-nil (take r out′) ∙ p .bytes ∙ e;
+  said = p .bytes ∙ ap (λ (o : Output). o .line) e;
+  given = ap (λ (o : Output). o .group) e;
   room = h;
   rest = p .rest;
   inside = omega arith;
@@ -44,17 +45,17 @@ unfolding overlapOf
 too-long s out out′ r h p l = told-line s out out′ (refusalText Input) r (rw (lt-ltb 65536 (length s) h)) p l
 
 module _ (s : List ℕ) (fits : length s ≤ 65536) where
-  opened : overlapOf s ≡ endedText (groupOf (numberAt s 0) (numberAt s 1) (drop 2 s) zeroed)
+  opened : overlapOf s ≡ outputOf (groupOf (numberAt s 0) (numberAt s 1) (drop 2 s) zeroed)
   unfolding overlapOf
   opened = rw (le-ltb 65536 (length s) fits)
 
-  no-digits-text : length s < 2 → refusalText Strategy ≡ overlapOf s
+  no-digits-text : length s < 2 → alone (refusalText Strategy) ≡ overlapOf s
   unfolding groupOf numberedOf
   no-digits-text h =
       let e : numberAt s 1 ≡ 3 = rw (le-ltb 1 (length s) (omega arith)) in
       rw (opened, e) (go (agreementOf (numberAt s 0)))
     where
-      go : (m : Option AgreementStrategy) → refusalText Strategy ≡ endedText (onNumbered (drop 2 s) zeroed (both m none))
+      go : (m : Option AgreementStrategy) → alone (refusalText Strategy) ≡ outputOf (onNumbered (drop 2 s) zeroed (both m none))
       go none = refl
       go (some m) = refl
 
@@ -67,10 +68,10 @@ module _ (s : List ℕ) (fits : length s ≤ 65536) where
     rest : part s 2 (length s) ≡ drop 2 s
     rest = take-all (length s - 2) (drop 2 s) (omega (arith, length-drop 2 s))
 
-    told : answerText a (ended a u (g .stats)) ≡ overlapOf s
+    told : outputBy a (ended a u (g .stats)) ≡ overlapOf s
     told =
-        ap (λ (x : GroupAnswer). endedText (ended x u (g .stats))) (sym ea)
-        ∙ ap endedText (eg ∙ (λ i. groupOf (em i) (ek i) (rest i) (ez i))) ∙ sym opened
+        ap (λ (x : GroupAnswer). outputOf (ended x u (g .stats))) (sym ea)
+        ∙ ap outputOf (eg ∙ (λ i. groupOf (em i) (ek i) (rest i) (ez i))) ∙ sym opened
 
     kept : (r : Refusal) → a ≡ Refused r → splice s 2 (length s) u ≡ s
     kept r e =
@@ -80,7 +81,7 @@ module _ (s : List ℕ) (fits : length s ≤ 65536) where
     pub refused-group : (r : Refusal) → a ≡ Refused r → (out out′ : List ℕ) (n : ℕ) → Put out 0 (refusalText r) out′ n → n ≤ 256
         → Told s s (splice s 2 (length s) u) out out′ n 0
     refused-group r e out out′ n p l =
-        let t : refusalText r ≡ overlapOf s = sym (ap (λ (x : GroupAnswer). answerText x (ended x u (g .stats))) e) ∙ told in
+        let t : alone (refusalText r) ≡ overlapOf s = sym (ap (λ (x : GroupAnswer). outputBy x (ended x u (g .stats))) e) ∙ told in
         rw (kept r e) (told-line s out out′ (refusalText r) n t p l)
 
     pub done-group : (x y v : ℕ) → a ≡ Done x y v → (out out′ : List ℕ) (n : ℕ) → Put out 0 (doneText x y v (g .stats)) out′ n → n ≤ 256
@@ -89,9 +90,10 @@ module _ (s : List ℕ) (fits : length s ≤ 65536) where
         let h : length u ≡ length s - 2 = size ∙ length-part s 2 (length s) two (omega arith) in
         let q : part (splice s 2 (length s) u) 2 (length s) ≡ u = part-put s u 2 (length s) two (omega arith) h in
         let r : 2 + (length s - 2) ≡ length s = omega arith in
-        let w : doneText x y v (g .stats) ++ u ≡ overlapOf s = sym (ap (λ (t : GroupAnswer). answerText t (ended t u (g .stats))) e) ∙ told in
+        let w : outputBy (Done x y v) (ended a u (g .stats)) ≡ overlapOf s = sym (ap (λ (t : GroupAnswer). outputBy t (ended t u (g .stats))) e) ∙ told in
         record {
-          written = ap₂ (λ (b t : List ℕ). b ++ t) (p .bytes) q ∙ w;
+          said = p .bytes ∙ ap (λ (o : Output). o .line) w;
+          given = q ∙ ap (λ (o : Output). o .group) w;
           room = l;
           rest = p .rest;
           inside = omega arith;
@@ -126,7 +128,8 @@ module _ (s t x : List ℕ) (h : length x ≡ length s) where
 
   pub widened : (out out′ : List ℕ) (line group : ℕ) → Told s s x out out′ line group → Told s (s ++ t) (x ++ t) out out′ line group
   widened out out′ line group p = record {
-    written = ap (λ (y : List ℕ). take line out′ ++ y) (group-in group (p .inside)) ∙ p .written;
+    said = p .said;
+    given = group-in group (p .inside) ∙ p .given;
     room = p .room;
     rest = p .rest;
     inside = p .inside;

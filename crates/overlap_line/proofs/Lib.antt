@@ -1,3 +1,4 @@
 pub mod DigitLaws
 pub mod PutLaws
 pub mod AnswerLaws
+pub mod OnceLaws

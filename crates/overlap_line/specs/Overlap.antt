@@ -1,7 +1,7 @@
 -- What the program `overlap` writes, by what it reads.
 use Prim.Native.Nat.{ℕ, _-_}
 use mathlib.Core.Bool.{cond}
-use mathlib.Core.List.{List, _++_}
+use mathlib.Core.List.{List, []}
 use lib.Dec.{ltb}
 use lib.ListN.{length, getD, drop}
 use Rattle.refusal.specs.declared.Refusal.the-variants.{Input}
@@ -15,14 +15,23 @@ use Rattle.overlap_line.specs.Line.{doneText, refusalText}
 abbrev pub numberAt : List ℕ → ℕ → ℕ
 numberAt s k = cond (ltb k (length s)) (cond (ltb (getD s k 0) 48) 3 (getD s k 0 - 48)) 3
 
--- accepted: the line, then the group; refused: the line and nothing more
-abbrev pub answerText : GroupAnswer → Ended → List ℕ
-answerText (Done records pairs overlapping) e = doneText records pairs overlapping (e .stats) ++ e .bytes
-answerText (Refused r) e = refusalText r
+-- what is written: a line, then a group or nothing
+pub record Output : Type 0 where
+  pub line : List ℕ
+  pub group : List ℕ
 
-abbrev pub endedText : Ended → List ℕ
-endedText e = answerText (e .answer) e
+abbrev pub alone : List ℕ → Output
+alone text = record { line = text; group = [] }
+
+-- accepted: the group follows; refused: the line alone
+abbrev pub outputBy : GroupAnswer → Ended → Output
+outputBy (Done records pairs overlapping) e = record { line = doneText records pairs overlapping (e .stats); group = e .bytes }
+outputBy (Refused r) e = alone (refusalText r)
+
+abbrev pub outputOf : Ended → Output
+outputOf e = outputBy (e .answer) e
 
 -- 14 before all else; then two digits and a group, its counts begun at 0
-unfoldable pub overlapOf : List ℕ → List ℕ
-overlapOf s = cond (ltb 65536 (length s)) (refusalText Input) (endedText (groupOf (numberAt s 0) (numberAt s 1) (drop 2 s) zeroed))
+unfoldable pub overlapOf : List ℕ → Output
+overlapOf s =
+    cond (ltb 65536 (length s)) (alone (refusalText Input)) (outputOf (groupOf (numberAt s 0) (numberAt s 1) (drop 2 s) zeroed))

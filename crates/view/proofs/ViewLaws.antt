@@ -2,42 +2,54 @@
 use mathlib.Core.Bool.{Bool, true, false, cond}
 use mathlib.Core.List.{List, []}
 use mathlib.Core.Path.{_≡_, refl}
-use Prim.Native.Nat.{ℕ, _+_, _-_, _≤_}
+use Prim.Native.Nat.{ℕ, _+_, _<_, _≤_}
 use native.Mathlib.Omega.{arith}
 use lib.Dec.{ltb}
-use lib.ListN.{length, take, drop}
-use borrow.Author.Tests.{ltb-false}
+use lib.ListN.{length}
+use borrow.Author.Tests.{ltb-false, lt-ltb, le-ltb}
 use Rattle.refusal.specs.declared.Refusal.{Refusal}
-use Rattle.refusal.specs.declared.Refusal.the-variants.{RecordLong, NameAndOperations}
-use Rattle.fields.specs.Layout.{header, basesAt}
-use Rattle.fields.proofs.NameLaws.{name-part}
+use Rattle.refusal.specs.declared.Refusal.the-variants.{RecordShort, RecordLong, NameAndOperations, BasesAndQualities}
+use Rattle.refusal.specs.Table.{numberOf}
+use Rattle.fields.specs.Layout.{header, nameIn, basesAt, tagsAt, layoutOf}
+use Rattle.fields.specs.Check.{checkOf}
+use Rattle.fields.specs.declared.Layout.{Layout}
+use Rattle.fields.specs.declared.Checked.{Checked}
+use Rattle.fields.specs.declared.Checked.the-variants.{Good, Bad}
 use Rattle.view.specs.declared.Viewed.{Viewed}
 use Rattle.view.specs.declared.Viewed.the-variants.{Well, Refused}
-use Rattle.view.specs.View.{refusedOf, nameOf}
+use Rattle.view.specs.View.{viewedBy, refusedOf, nameOf}
 
--- a test that would have refused did not hold
-passed : (t : Bool) (r : Refusal) (x : Viewed) → cond t (Refused r) x ≡ Well → (t ≡ false) × (x ≡ Well)
-passed true r x e = let z : _≡_ {A = ℕ} 0 1 = cc in absurd (omega arith)
-passed false r x e = (refl, e)
-
--- its header, and its name and operations, lie within it
-pub well-lies : (s : List ℕ) → refusedOf s ≡ Well → (32 ≤ length s) × (basesAt s ≤ length s)
+-- the view by what the check finds
+pub good-well : (s : List ℕ) (y : Layout) → checkOf s 0 ≡ Good y → Well ≡ refusedOf s
 unfolding refusedOf
-well-lies s e =
-    let a = passed _ _ _ e in
-    let b = passed (ltb 65536 (length s)) (RecordLong 0) _ (a .1) in
-    let o = passed (ltb (length s) (basesAt s)) (NameAndOperations 0) _ (b .1) in
-    (ltb-false _ _ (a .0), ltb-false _ _ (o .0))
+good-well s y e = rw e
 
--- where its name ends, and that a name length of 0 leaves none
-pub well-named : (s : List ℕ) (n : ℕ) → refusedOf s ≡ Well → n ≡ header s .nameLength → take (32 + (n - 1) - 32) (drop 32 s) ≡ nameOf s
+pub bad-refused : (s : List ℕ) (r : Refusal) → checkOf s 0 ≡ Bad r → numberOf r < 4 → Refused r ≡ refusedOf s
+unfolding refusedOf
+bad-refused s r e h = rw (e, lt-ltb (numberOf r) 4 h)
+
+pub bad-well : (s : List ℕ) (r : Refusal) → checkOf s 0 ≡ Bad r → 4 ≤ numberOf r → Well ≡ refusedOf s
+unfolding refusedOf
+bad-well s r e h = rw (e, le-ltb (numberOf r) 4 h)
+
+-- none of the first three tests of the check held
+third-passed : (p₁ p₂ p₃ : Bool) (x : Checked) → viewedBy (cond p₁ (Bad (RecordShort 0)) (cond p₂ (Bad (RecordLong 0)) (cond p₃ (Bad (NameAndOperations 0)) x))) ≡ Well
+    → p₃ ≡ false
+third-passed true p₂ p₃ x e = let z : _≡_ {A = ℕ} 0 1 = cc in absurd (omega arith)
+third-passed false true p₃ x e = let z : _≡_ {A = ℕ} 0 1 = cc in absurd (omega arith)
+third-passed false false true x e = let z : _≡_ {A = ℕ} 0 1 = cc in absurd (omega arith)
+third-passed false false false x e = refl
+
+-- its name lies within it
+pub well-lies : (s : List ℕ) → refusedOf s ≡ Well → 32 + header s .nameLength ≤ length s
+unfolding refusedOf checkOf
+well-lies s e = let h = ltb-false (length s) (basesAt s) (third-passed (ltb (length s) 32) (ltb 65536 (length s)) (ltb (length s) (basesAt s)) (cond (ltb (length s) (tagsAt s)) (Bad (BasesAndQualities 0)) (Good (layoutOf s))) e) in omega arith
+
+-- a record that can be viewed has its name, and a refused one none
+pub well-named : (s : List ℕ) → refusedOf s ≡ Well → nameIn s ≡ nameOf s
 unfolding nameOf
-well-named s n e l = rw e (name-part s (32 + (n - 1)) (omega arith))
+well-named s e = rw e
 
-pub unnamed : (s : List ℕ) (n : ℕ) → refusedOf s ≡ Well → n ≡ header s .nameLength → n ≡ 0 → [] ≡ nameOf s
-unnamed s n e l z = rw z at (well-named s n e l)
-
--- a record that is refused has no name
 pub refused-unnamed : (s : List ℕ) (r : Refusal) → refusedOf s ≡ Refused r → [] ≡ nameOf s
 unfolding nameOf
 refused-unnamed s r e = rw e

@@ -5,17 +5,21 @@ use mathlib.Core.List.{List, []}
 use lib.Dec.{ltb}
 use lib.IntN.{ℤ, negsuc}
 use lib.ListN.{length}
-use Rattle.refusal.specs.declared.Refusal.the-variants.{RecordShort, RecordLong, NameAndOperations}
-use Rattle.fields.specs.Layout.{header, nameIn, basesAt}
+use Rattle.refusal.specs.Table.{numberOf}
+use Rattle.fields.specs.Layout.{header, nameIn}
+use Rattle.fields.specs.Check.{checkOf}
+use Rattle.fields.specs.declared.Checked.{Checked}
+use Rattle.fields.specs.declared.Checked.the-variants.{Good, Bad}
 use Rattle.view.specs.declared.Viewed.{Viewed}
 use Rattle.view.specs.declared.Viewed.the-variants.{Well, Refused}
 
--- 1 of the table, then 2, then 3: under 32 bytes, over 65,536, name and operations reach past it
+-- what the check comes to: 1, 2 and 3 of the table refuse, and 4 does not
+abbrev pub viewedBy : Checked → Viewed
+viewedBy (Good y) = Well
+viewedBy (Bad r) = cond (ltb (numberOf r) 4) (Refused r) Well
+
 unfoldable pub refusedOf : List ℕ → Viewed
-refusedOf s =
-    cond (ltb (length s) 32) (Refused (RecordShort 0))
-    (cond (ltb 65536 (length s)) (Refused (RecordLong 0))
-    (cond (ltb (length s) (basesAt s)) (Refused (NameAndOperations 0)) Well))
+refusedOf s = viewedBy (checkOf s 0)
 
 -- a record that is refused has no name
 abbrev pub nameBy : Viewed → List ℕ → List ℕ

@@ -1,15 +1,11 @@
 // The read view over a lent record: whether it is refused, its name as a part of it, and the
 // numbers of its header that the overlap step reads.
+use fields::Checked;
+use fields::FIXED;
 use fields::Flags;
 use refusal::Refusal;
 ghost use mathlib.Core.Path.{_≡_};
 ghost use Rattle.view.specs.View.{refusedOf, nameOf, flagsOf, refIdOf, posOf, operationCountOf, lSeqOf};
-
-// How many bytes a record has before its name.
-const FIXED: usize = 32;
-
-// How many bytes a record may have.
-const LONGEST: usize = 65536;
 
 // Whether a record can be viewed: refusals 1, 2 and 3 of the table, with place 0.
 pub enum Viewed {
@@ -17,20 +13,16 @@ pub enum Viewed {
     Refused(Refusal),
 }
 
-// Whether the record's length is allowed and its name and operations lie within it.
+// Whether a record given alone can be viewed: the check's own answer, but that 4 does not refuse.
 pub fn check_view(s: &[u8]) -> Viewed
     ensures { λ r. ⌜ r ≡ refusedOf (now (s .entry)) ⌝ }
 {
-    if s.len() < FIXED {
-        return Viewed::Refused(Refusal::RecordShort(0));
-    }
-    if LONGEST < s.len() {
-        return Viewed::Refused(Refusal::RecordLong(0));
-    }
-    let operations = FIXED + fields::l_read_name(s) as usize;
-    let bases = operations + 4 * (fields::n_cigar_op(s) as usize);
-    if s.len() < bases {
-        return Viewed::Refused(Refusal::NameAndOperations(0));
+    let checked = fields::check_record(s, 0);
+    let Checked::Bad(r) = checked else {
+        return Viewed::Well;
+    };
+    if r.number() < 4 {
+        return Viewed::Refused(r);
     }
     Viewed::Well
 }
@@ -43,12 +35,7 @@ pub fn name_part(s: &[u8]) -> &[u8]
     let Viewed::Well = v else {
         return &s[0..0];
     };
-    let n = fields::l_read_name(s) as usize;
-    if n == 0 {
-        return &s[0..0];
-    }
-    let end = FIXED + (n - 1);
-    &s[FIXED..end]
+    fields::name_of(s)
 }
 
 // The record's flags; none is set where it is under 32 bytes.
