@@ -12,7 +12,7 @@ use Rattle.fields.specs.Sound.{Lies}
 use Rattle.fields.proofs.Arith.{eq-or-ne}
 use Rattle.stats.specs.declared.CorrectionStats.{CorrectionStats}
 use Rattle.stats.specs.Counts.{counts, plus}
-use Rattle.stats.proofs.CountLaws.{counts-as}
+use Rattle.stats.proofs.CountLaws.{counts-as, plus-swap}
 use Rattle.strategy.specs.declared.Strategies.{Strategies}
 use Rattle.bases.specs.Base.{baseAt, qualityAt}
 use Rattle.bases.specs.Written.{withSeen}
@@ -21,11 +21,11 @@ use Rattle.positions.specs.Step.{Job, job, State, state, ruled}
 use Rattle.positions.specs.Treating.{wrote, step, steps, row}
 use Rattle.positions.proofs.StepLaws.{ruled-fine}
 use Rattle.positions.proofs.PointLaws.{Both, both-step}
-use Rattle.blocks.specs.declared.lane.Lane.{Lane}
-use Rattle.blocks.specs.LaneRule.{laneOf}
+use Rattle.lane.specs.declared.Lane.{Lane}
+use Rattle.lane.specs.LaneRule.{laneOf}
 use Rattle.blocks.specs.BlockParts.{picked}
-use Rattle.blocks.proofs.LaneLaws.{laneOut, lane-rule, lane-left, Left}
-use Rattle.blocks.proofs.PutLaws.{put-set, base-set, quality-set, Small, put-small, put-own}
+use Rattle.lane.proofs.LaneLaws.{laneOut, lane-rule, lane-left, Left}
+use Rattle.positions.proofs.PutLaws.{put-set, base-set, quality-set, Small, put-small, put-own}
 
 -- by how much a lane that does not differ lets the counts grow
 abbrev pub laneGrowth : Lane → CorrectionStats
@@ -41,9 +41,6 @@ quick f ka kb t zero s = s
 quick f ka kb t (suc m) s = quick f ka kb (suc t) m (laid (ka + t) (kb + t) (f t) s)
 
 -- ---- a position may be treated before the lanes further on are laid, or after
-pub plus-swap : (g h k : CorrectionStats) → plus (plus g h) k ≡ plus (plus g k) h
-plus-swap g h k = counts-as (plus (plus g h) k) (plus (plus g k) h) (omega arith) (omega arith) (omega arith) (omega arith)
-
 -- the position i, j lies before ka and kb
 pub record Before (w : Job) (i j ka kb : ℕ) : Type 0 where
   pub base₁ : w .first .bases + i / 2 < ka

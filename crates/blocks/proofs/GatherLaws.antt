@@ -9,9 +9,9 @@ use lib.Dec.{ltb}
 use Rattle.fields.specs.declared.Layout.{Layout}
 use Rattle.strategy.specs.declared.AgreementStrategy.{AgreementStrategy}
 use Rattle.bases.specs.Base.{baseAt}
-use Rattle.blocks.specs.declared.lane.Lane.{Lane}
+use Rattle.lane.specs.declared.Lane.{Lane}
 use Rattle.blocks.specs.declared.block.Lanes.{Lanes}
-use Rattle.blocks.specs.LaneRule.{laneOf}
+use Rattle.lane.specs.LaneRule.{laneOf}
 use Rattle.blocks.specs.BlockParts.{LanesOf, Unpacked, masked, Gathered}
 use Rattle.blocks.proofs.SumLaws.{sum-cong}
 

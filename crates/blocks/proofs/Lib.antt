@@ -1,5 +1,3 @@
-pub mod LaneLaws
-pub mod PutLaws
 pub mod BlockLaws
 pub mod FillLaws
 pub mod SumLaws
@@ -7,4 +5,3 @@ pub mod GatherLaws
 pub mod DifferLaws
 pub mod RowLaws
 pub mod TallyLaws
-pub mod ShortLaws

@@ -4,10 +4,10 @@ use mathlib.Core.Path.{_≡_, refl, ap, _∙_}
 use mathlib.Core.List.{List}
 use native.Mathlib.Omega.{arith}
 use lib.ListN.{length, set, length-set}
-use Rattle.blocks.specs.declared.lane.Lane.{Lane}
+use Rattle.lane.specs.declared.Lane.{Lane}
 use Rattle.blocks.specs.declared.block.Lanes.{Lanes}
 use Rattle.blocks.specs.BlockParts.{sumOf, LanesOf}
-use Rattle.blocks.proofs.LaneLaws.{Bits}
+use Rattle.lane.proofs.LaneLaws.{Bits}
 use Rattle.blocks.proofs.FillLaws.{Filled, filled-turn}
 
 -- ---- sums

@@ -20,11 +20,11 @@ use Rattle.bases.specs.Base.{baseAt, qualityAt}
 use Rattle.positions.specs.Step.{job, State, state}
 use Rattle.positions.specs.Treating.{steps, row}
 use Rattle.positions.proofs.PointLaws.{Both}
-use Rattle.blocks.specs.declared.lane.Lane.{Lane}
+use Rattle.lane.specs.declared.Lane.{Lane}
 use Rattle.blocks.specs.declared.block.Lanes.{Lanes}
-use Rattle.blocks.specs.LaneRule.{laneOf}
+use Rattle.lane.specs.LaneRule.{laneOf}
 use Rattle.blocks.specs.BlockParts.{sumOf, Gathered, picked}
-use Rattle.blocks.proofs.LaneLaws.{Blank, lane-blank, Bits, lane-bits}
+use Rattle.lane.proofs.LaneLaws.{Blank, lane-blank, Bits, lane-bits}
 use Rattle.blocks.proofs.FillLaws.{store-some}
 use Rattle.blocks.proofs.SumLaws.{sum-cut}
 use Rattle.blocks.proofs.BlockLaws.{laneGrowth, laid, quick, block}

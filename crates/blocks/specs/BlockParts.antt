@@ -8,9 +8,9 @@ use lib.Dec.{eqb, ltb}
 use Rattle.fields.specs.declared.Layout.{Layout}
 use Rattle.strategy.specs.declared.AgreementStrategy.{AgreementStrategy}
 use Rattle.bases.specs.Base.{half, baseAt, qualityAt}
-use Rattle.blocks.specs.declared.lane.Lane.{Lane}
+use Rattle.lane.specs.declared.Lane.{Lane}
 use Rattle.blocks.specs.declared.block.Lanes.{Lanes}
-use Rattle.blocks.specs.LaneRule.{laneOf}
+use Rattle.lane.specs.LaneRule.{laneOf}
 
 -- f t + f (t + 1) + .., m of them
 unfoldable pub sumOf : (ℕ → ℕ) → ℕ → ℕ → ℕ

@@ -1,2 +1,1 @@
-pub mod LaneRule
 pub mod BlockParts

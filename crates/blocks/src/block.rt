@@ -1,7 +1,6 @@
 // A block: up to 32 shared positions in a row. All lanes are computed at once, the new qualities are
 // stored in one piece, and only the lanes whose bases differ are then treated one by one.
 use crate::differing;
-use crate::lane;
 use fields::Layout;
 use fields::ReadOffset;
 use stats::CorrectionStats;
@@ -15,7 +14,7 @@ ghost use Rattle.fields.specs.Sound.{Lies};
 ghost use Rattle.stats.specs.Room.{Room};
 ghost use Rattle.positions.specs.Step.{state, job};
 ghost use Rattle.positions.specs.Treating.{steps, row};
-ghost use Rattle.blocks.specs.LaneRule.{laneOf};
+ghost use Rattle.lane.specs.LaneRule.{laneOf};
 ghost use Rattle.blocks.specs.BlockParts.{LanesOf, Codes, Unpacked, masked, Gathered};
 
 // 32 lanes: their qualities, which of them differ, and how many agree, are corrected and differ.

@@ -2,8 +2,6 @@
 // and takes a tenth of its instructions on long rows.
 mod block;
 mod differing;
-mod lane;
-mod short;
 
 use fields::Layout;
 use fields::ReadOffset;
@@ -63,7 +61,7 @@ pub fn treat_row(
         let q = ReadOffset(j.0 + t);
         let m = block_size(n - t, first.len() - (yq + p.0), second.len() - (zq + q.0));
         if m == 0 {
-            return short::treat_short(w, first, second, y, z, p, q, n - t, h);
+            return positions::treat_row(w, first, second, y, z, p, q, n - t, h);
         }
         h = block::treat_block(w, first, second, y, z, p, q, m, h);
         t += m;

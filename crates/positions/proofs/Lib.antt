@@ -1,2 +1,4 @@
 pub mod StepLaws
 pub mod PointLaws
+pub mod PutLaws
+pub mod BesideLaws

@@ -34,7 +34,8 @@ pub fn treat_one(
     g.plus(growth)
 }
 
-// n shared positions in a row, from base i of the first record and base j of the second on.
+// n shared positions in a row, from base i of the first record and base j of the second on. Bases are
+// written only where they differ, and the counts of agreements are added up beside the others.
 pub fn treat_row(
     w: Strategies,
     first: &mut [u8],
@@ -49,20 +50,31 @@ pub fn treat_row(
     requires { ⌜ Lies y (length (now first)) × Lies z (length (now second)) × (i .0 + n ≤ y .count) × (j .0 + n ≤ z .count) × Room g (2 * n) ⌝ }
     ensures { λ r. ⌜ state (now (first .exit)) (now (second .exit)) r ≡ steps (job w y z) (row (i .0) (j .0) n) (state (now (first .entry)) (now (second .entry)) g) ⌝ }
 {
+    let m = w.agreement;
+    let yq = y.qualities;
+    let zq = z.qualities;
     let mut t = 0;
     let mut h = g;
+    let mut agreeing: u64 = 0;
+    let mut corrected: u64 = 0;
     while t < n {
-        h = treat_one(
-            w,
-            first,
-            second,
-            y,
-            z,
-            ReadOffset(i.0 + t),
-            ReadOffset(j.0 + t),
-            h,
-        );
-        t += 1;
+        let p = ReadOffset(i.0 + t);
+        let q = ReadOffset(j.0 + t);
+        let a = bases::get(first, y, p);
+        let b = bases::get(second, z, q);
+        if a.base == 15 {
+            t += 1;
+        } else if a.base == b.base {
+            let r = lane::agreed(m, a.quality, b.quality);
+            first[yq + p.0] = r.qual1;
+            second[zq + q.0] = r.qual2;
+            agreeing += 1;
+            corrected += lane::wide(lane::changed(a.quality, b.quality, r.qual1, r.qual2));
+            t += 1;
+        } else {
+            h = treat_one(w, first, second, y, z, p, q, h);
+            t += 1;
+        }
     }
-    h
+    h.plus(lane::agreements(agreeing, corrected))
 }

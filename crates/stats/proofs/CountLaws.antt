@@ -18,6 +18,9 @@ plus-assoc g h k = counts-as (plus (plus g h) k) (plus g (plus h k)) (omega arit
 pub plus-comm : (g h : CorrectionStats) → plus g h ≡ plus h g
 plus-comm g h = counts-as (plus g h) (plus h g) (omega arith) (omega arith) (omega arith) (omega arith)
 
+pub plus-swap : (g h k : CorrectionStats) → plus (plus g h) k ≡ plus (plus g k) h
+plus-swap g h k = counts-as (plus (plus g h) k) (plus (plus g k) h) (omega arith) (omega arith) (omega arith) (omega arith)
+
 pub plus-zero : (g : CorrectionStats) → plus g zeroed ≡ g
 plus-zero g = counts-as (plus g zeroed) g (omega arith) (omega arith) (omega arith) (omega arith)
 

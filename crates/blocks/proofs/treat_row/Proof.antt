@@ -50,11 +50,11 @@ sub-block-size-3 c = omega arith
 block-size-requires : tie.Need-block-size-requires Inv-loop μ-loop
 block-size-requires c κs = search needs
 
-sub-treat-short : tie.Need-sub-treat-short Inv-loop μ-loop
-sub-treat-short c = omega arith
+sub-treat-row : tie.Need-sub-treat-row Inv-loop μ-loop
+sub-treat-row c = omega arith
 
-treat-short-requires : tie.Need-treat-short-requires Inv-loop μ-loop
-treat-short-requires c κs =
+treat-row-requires : tie.Need-treat-row-requires Inv-loop μ-loop
+treat-row-requires c κs =
     let turn = c .before .before .before .before .before .before .before .before .before in
     let entry = turn .before .before .before in
     let loop = turn .loop in
@@ -62,29 +62,29 @@ treat-short-requires c κs =
 
 same-length : tie.Need-same-length Inv-loop μ-loop
 same-length c =
-    let by-treat-short = c .before .before .before .before in
-    let turn = by-treat-short .before .before .before .before .before .before .before .before .before .before in
+    let by-treat-row = c .before .before .before .before in
+    let turn = by-treat-row .before .before .before .before .before .before .before .before .before .before in
     let entry = turn .before .before .before in
     let args = entry .args in
     let loop = turn .loop in
-    ap (λ (s : State). length (s .first)) (by-treat-short .treat-short .ensures)
+    ap (λ (s : State). length (s .first)) (by-treat-row .treat-row .ensures)
     ∙ (steps-length (job (args .w) (args .y) (args .z)) (row (args .i .0 + loop .t) (args .j .0 + loop .t) (args .n - loop .t)) (state (loop .first) (loop .second) (loop .h)) .0 ∙ loop .inv .first)
 
 same-length-2 : tie.Need-same-length-2 Inv-loop μ-loop
 same-length-2 c =
-    let by-treat-short = c .before .before .before .before in
-    let turn = by-treat-short .before .before .before .before .before .before .before .before .before .before in
+    let by-treat-row = c .before .before .before .before in
+    let turn = by-treat-row .before .before .before .before .before .before .before .before .before .before in
     let entry = turn .before .before .before in
     let args = entry .args in
     let loop = turn .loop in
-    ap (λ (s : State). length (s .second)) (by-treat-short .treat-short .ensures)
+    ap (λ (s : State). length (s .second)) (by-treat-row .treat-row .ensures)
     ∙ (steps-length (job (args .w) (args .y) (args .z)) (row (args .i .0 + loop .t) (args .j .0 + loop .t) (args .n - loop .t)) (state (loop .first) (loop .second) (loop .h)) .1 ∙ loop .inv .second)
 
 returns : tie.Need-returns Inv-loop μ-loop
 returns c =
-    let by-treat-short = c .before .before .before .before in
-    let turn = by-treat-short .before .before .before .before .before .before .before .before .before .before in
-    by-treat-short .treat-short .ensures ∙ turn .loop .inv .left
+    let by-treat-row = c .before .before .before .before in
+    let turn = by-treat-row .before .before .before .before .before .before .before .before .before .before in
+    by-treat-row .treat-row .ensures ∙ turn .loop .inv .left
 
 treat-block-requires : tie.Need-treat-block-requires Inv-loop μ-loop
 treat-block-requires c κs =
@@ -149,8 +149,8 @@ treat-row-spec =
     add-block-size-4
     sub-block-size-3
     block-size-requires
-    sub-treat-short
-    treat-short-requires
+    sub-treat-row
+    treat-row-requires
     same-length
     same-length-2
     returns

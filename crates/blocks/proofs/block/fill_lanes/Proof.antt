@@ -5,9 +5,9 @@ use native.Mathlib.Omega.{arith}
 use lib.ListN.{getD}
 use borrow.Author.Needs.{needs}
 use denote.Ref.{now}
-use Rattle.blocks.specs.LaneRule.{laneOf}
+use Rattle.lane.specs.LaneRule.{laneOf}
 use Rattle.blocks.specs.BlockParts.{masked}
-use Rattle.blocks.proofs.LaneLaws.{lane-small}
+use Rattle.lane.proofs.LaneLaws.{lane-small}
 use Rattle.blocks.proofs.FillLaws.{pastEnd, masked-as}
 use Rattle.blocks.proofs.SumLaws.{Filling, lanes, filling-start, filling-turn, filling-end}
 use Rattle.blocks.proofs.block.fill_lanes.Statement.{statement}

@@ -4,8 +4,8 @@ use mathlib.Core.Bool.{cond, _&&_}
 use lib.Dec.{eqb}
 use Rattle.strategy.specs.declared.AgreementStrategy.{AgreementStrategy}
 use Rattle.strategy.specs.Rule.{agreedQual}
-use Rattle.blocks.specs.declared.lane.Qualities.{Qualities}
-use Rattle.blocks.specs.declared.lane.Lane.{Lane}
+use Rattle.lane.specs.declared.Qualities.{Qualities}
+use Rattle.lane.specs.declared.Lane.{Lane}
 
 -- 1 where both bases are called and equal; N is 15
 abbrev pub agreesOf : ℕ → ℕ → ℕ

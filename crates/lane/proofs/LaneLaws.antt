@@ -10,9 +10,9 @@ use Rattle.strategy.specs.declared.AgreementStrategy.{AgreementStrategy}
 use Rattle.strategy.specs.declared.Strategies.{Strategies}
 use Rattle.strategy.specs.declared.Treated.{Treated}
 use Rattle.strategy.specs.Rule.{out, agreedQual, treated}
-use Rattle.blocks.specs.declared.lane.Qualities.{Qualities}
-use Rattle.blocks.specs.declared.lane.Lane.{Lane}
-use Rattle.blocks.specs.LaneRule.{agreesOf, differsOf, chosen, changedOf, qualities, agreedOf, lane, laneOf}
+use Rattle.lane.specs.declared.Qualities.{Qualities}
+use Rattle.lane.specs.declared.Lane.{Lane}
+use Rattle.lane.specs.LaneRule.{agreesOf, differsOf, chosen, changedOf, qualities, agreedOf, lane, laneOf}
 
 -- ---- what the code answers
 pub agreed-as : (m m′ : AgreementStrategy) (a b p q : ℕ) → m ≡ m′ → p ≡ agreedQual m′ a b → q ≡ agreedQual m′ b a → qualities p q ≡ agreedOf m a b

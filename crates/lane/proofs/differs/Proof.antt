@@ -1,7 +1,7 @@
--- `blocks::lane::differs` meets its contract: each return is a case of the definition, by the tests on the way. Assumes nothing.
+-- `lane::differs` meets its contract: each return is a case of the definition, by the tests on the way. Assumes nothing.
 use borrow.Author.Tests.{eq-eqb, ne-eqb}
-use Rattle.blocks.proofs.lane.differs.Statement.{statement}
-use Rattle.blocks.proofs.lane.differs.Tie as tie
+use Rattle.lane.proofs.differs.Statement.{statement}
+use Rattle.lane.proofs.differs.Tie as tie
 
 returns : tie.Need-returns
 returns c = simp (eq-eqb _ _ (c .if1 .taken))

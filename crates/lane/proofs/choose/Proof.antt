@@ -1,7 +1,7 @@
--- `blocks::lane::choose` meets its contract: each return is a case of the definition, by the test on the way. Assumes nothing.
+-- `lane::choose` meets its contract: each return is a case of the definition, by the test on the way. Assumes nothing.
 use borrow.Author.Tests.{eq-eqb, ne-eqb}
-use Rattle.blocks.proofs.lane.choose.Statement.{statement}
-use Rattle.blocks.proofs.lane.choose.Tie as tie
+use Rattle.lane.proofs.choose.Statement.{statement}
+use Rattle.lane.proofs.choose.Tie as tie
 
 returns : tie.Need-returns
 returns c = simp (eq-eqb _ _ (c .if1 .taken))

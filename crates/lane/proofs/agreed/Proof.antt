@@ -1,11 +1,11 @@
--- `blocks::lane::agreed` meets its contract: in each arm the strategy is the one that is named. Assumes nothing.
+-- `lane::agreed` meets its contract: in each arm the strategy is the one that is named. Assumes nothing.
 use mathlib.Core.Path.{refl, _∙_}
 use native.Mathlib.Omega.{arith}
 use borrow.Author.Needs.{needs}
 use Rattle.strategy.specs.declared.AgreementStrategy.the-variants as Agree
-use Rattle.blocks.proofs.LaneLaws.{agreed-as}
-use Rattle.blocks.proofs.lane.agreed.Statement.{statement}
-use Rattle.blocks.proofs.lane.agreed.Tie as tie
+use Rattle.lane.proofs.LaneLaws.{agreed-as}
+use Rattle.lane.proofs.agreed.Statement.{statement}
+use Rattle.lane.proofs.agreed.Tie as tie
 
 enum-told : tie.Need-enum-told
 enum-told c = search needs

@@ -11,20 +11,19 @@ use Rattle.fields.specs.declared.Layout.{Layout}
 use Rattle.stats.specs.declared.CorrectionStats.{CorrectionStats}
 use Rattle.stats.specs.Counts.{counts, plus}
 use Rattle.stats.specs.Room.{Room, Adds}
-use Rattle.stats.proofs.CountLaws.{counts-as, plus-zero}
+use Rattle.stats.proofs.CountLaws.{counts-as, plus-zero, plus-swap}
 use Rattle.strategy.specs.declared.Strategies.{Strategies}
 use Rattle.strategy.specs.Rule.{out}
 use Rattle.bases.specs.Base.{baseAt, qualityAt}
 use Rattle.bases.specs.Written.{withSeen}
 use Rattle.positions.specs.Step.{job, State, state, ruled}
 use Rattle.positions.specs.Treating.{wrote, step, steps, row}
 use Rattle.positions.proofs.StepLaws.{ruled-fine, Running, running-start, running-turn, row-end}
 use Rattle.positions.proofs.PointLaws.{Both}
-use Rattle.blocks.specs.declared.lane.Qualities.{Qualities}
-use Rattle.blocks.specs.LaneRule.{changedOf, agreedOf}
-use Rattle.blocks.proofs.LaneLaws.{agreed-rule, blank-rule, bit-low}
-use Rattle.blocks.proofs.PutLaws.{Small, set-small, put-small, put-own}
-use Rattle.blocks.proofs.BlockLaws.{plus-swap}
+use Rattle.lane.specs.declared.Qualities.{Qualities}
+use Rattle.lane.specs.LaneRule.{changedOf, agreedOf}
+use Rattle.lane.proofs.LaneLaws.{agreed-rule, blank-rule, bit-low}
+use Rattle.positions.proofs.PutLaws.{Small, set-small, put-small, put-own}
 
 -- the counts h with e agreements more, of which c are corrected
 abbrev pub beside : CorrectionStats → ℕ → ℕ → CorrectionStats

@@ -1,8 +1,8 @@
--- `blocks::lane::lane_of` meets its contract: what the callees ensure, put together. Assumes nothing.
+-- `lane::lane_of` meets its contract: what the callees ensure, put together. Assumes nothing.
 use borrow.Author.Needs.{needs}
-use Rattle.blocks.proofs.LaneLaws.{lane-as}
-use Rattle.blocks.proofs.lane.lane_of.Statement.{statement}
-use Rattle.blocks.proofs.lane.lane_of.Tie as tie
+use Rattle.lane.proofs.LaneLaws.{lane-as}
+use Rattle.lane.proofs.lane_of.Statement.{statement}
+use Rattle.lane.proofs.lane_of.Tie as tie
 
 agrees-requires : tie.Need-agrees-requires
 agrees-requires c κs = search needs

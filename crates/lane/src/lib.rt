@@ -5,7 +5,7 @@ use strategy::AgreementStrategy;
 ghost use mathlib.Core.Path.{_≡_};
 ghost use Prim.Native.Nat.{_+_, min, max};
 ghost use Rattle.stats.specs.Counts.{counts};
-ghost use Rattle.blocks.specs.LaneRule.{agreesOf, differsOf, chosen, changedOf, agreedOf, laneOf};
+ghost use Rattle.lane.specs.LaneRule.{agreesOf, differsOf, chosen, changedOf, agreedOf, laneOf};
 
 // The qualities of two bases that agree.
 pub struct Qualities {
@@ -30,7 +30,7 @@ fn smaller(a: u8, b: u8) -> u8
 }
 
 // The larger of two numbers.
-pub(crate) fn larger(a: u8, b: u8) -> u8
+pub fn larger(a: u8, b: u8) -> u8
     ensures { λ r. ⌜ r ≡ max a b ⌝ }
 {
     if a < b { b } else { a }
@@ -45,7 +45,7 @@ fn capped(a: u8, b: u8) -> u8
 }
 
 // What the qualities a and b become where the bases agree.
-pub(crate) fn agreed(m: AgreementStrategy, a: u8, b: u8) -> Qualities
+pub fn agreed(m: AgreementStrategy, a: u8, b: u8) -> Qualities
     ensures { λ r. ⌜ r ≡ agreedOf m a b ⌝ }
 {
     match m {
@@ -62,7 +62,7 @@ pub(crate) fn agreed(m: AgreementStrategy, a: u8, b: u8) -> Qualities
 }
 
 // 1 if the quality a becomes another one, or b does.
-pub(crate) fn changed(a: u8, b: u8, p: u8, q: u8) -> u8
+pub fn changed(a: u8, b: u8, p: u8, q: u8) -> u8
     ensures { λ r. ⌜ r ≡ changedOf a b p q ⌝ }
 {
     if a == p {
@@ -75,14 +75,14 @@ pub(crate) fn changed(a: u8, b: u8, p: u8, q: u8) -> u8
 }
 
 // A small number, as wide as a count.
-pub(crate) fn wide(x: u8) -> u64
+pub fn wide(x: u8) -> u64
     ensures { λ r. ⌜ r ≡ x ⌝ }
 {
     x as u64
 }
 
 // The counts of so many agreements, of which so many changed a quality.
-pub(crate) fn agreements(agreeing: u64, corrected: u64) -> CorrectionStats
+pub fn agreements(agreeing: u64, corrected: u64) -> CorrectionStats
     ensures { λ r. ⌜ r ≡ counts agreeing agreeing 0 corrected ⌝ }
 {
     CorrectionStats {
@@ -124,7 +124,7 @@ fn choose(e: u8, q: u8, p: u8) -> u8
 }
 
 // The lane of base code x with quality a in the first record, and y with b in the second.
-pub(crate) fn lane_of(m: AgreementStrategy, x: u8, a: u8, y: u8, b: u8) -> Lane
+pub fn lane_of(m: AgreementStrategy, x: u8, a: u8, y: u8, b: u8) -> Lane
     ensures { λ r. ⌜ r ≡ laneOf m x a y b ⌝ }
 {
     let e = agrees(x, y);

@@ -1,7 +1,7 @@
--- `blocks::lane::changed` meets its contract: each return is a case of the definition, by the tests on the way. Assumes nothing.
+-- `lane::changed` meets its contract: each return is a case of the definition, by the tests on the way. Assumes nothing.
 use borrow.Author.Tests.{eq-eqb, ne-eqb}
-use Rattle.blocks.proofs.lane.changed.Statement.{statement}
-use Rattle.blocks.proofs.lane.changed.Tie as tie
+use Rattle.lane.proofs.changed.Statement.{statement}
+use Rattle.lane.proofs.changed.Tie as tie
 
 returns : tie.Need-returns
 returns c = simp (eq-eqb _ _ (c .before .if1 .taken), eq-eqb _ _ (c .if2 .taken))
