@@ -23,9 +23,9 @@ use Rattle.positions.proofs.StepLaws.{ruled-fine}
 use Rattle.positions.proofs.PointLaws.{Both, both-step}
 use Rattle.lane.specs.declared.Lane.{Lane}
 use Rattle.lane.specs.LaneRule.{laneOf}
-use Rattle.blocks.specs.BlockParts.{picked}
 use Rattle.lane.proofs.LaneLaws.{laneOut, lane-rule, lane-left, Left}
 use Rattle.positions.proofs.PutLaws.{put-set, base-set, quality-set, Small, put-small, put-own}
+use Rattle.differing.specs.Picked.{picked}
 
 -- by how much a lane that does not differ lets the counts grow
 abbrev pub laneGrowth : Lane → CorrectionStats

@@ -2,6 +2,5 @@ pub mod BlockLaws
 pub mod FillLaws
 pub mod SumLaws
 pub mod GatherLaws
-pub mod DifferLaws
 pub mod RowLaws
 pub mod TallyLaws

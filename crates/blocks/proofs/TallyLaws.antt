@@ -23,11 +23,12 @@ use Rattle.positions.proofs.PointLaws.{Both}
 use Rattle.lane.specs.declared.Lane.{Lane}
 use Rattle.blocks.specs.declared.block.Lanes.{Lanes}
 use Rattle.lane.specs.LaneRule.{laneOf}
-use Rattle.blocks.specs.BlockParts.{sumOf, Gathered, picked}
+use Rattle.blocks.specs.BlockParts.{sumOf, Gathered}
 use Rattle.lane.proofs.LaneLaws.{Blank, lane-blank, Bits, lane-bits}
 use Rattle.blocks.proofs.FillLaws.{store-some}
 use Rattle.blocks.proofs.SumLaws.{sum-cut}
 use Rattle.blocks.proofs.BlockLaws.{laneGrowth, laid, quick, block}
+use Rattle.differing.specs.Picked.{picked}
 
 -- ---- lanes that are picked
 picked-cong : (f g : ℕ → ℕ) (i j t m : ℕ) → ((u : ℕ) → u < t + m → f u ≡ g u) → picked f i j t m ≡ picked g i j t m

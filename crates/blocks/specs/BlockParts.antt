@@ -1,10 +1,10 @@
--- What a block is made of: 32 lanes and their sums, and the lanes that are left to be treated one by one.
+-- What a block is made of: 32 lanes and their sums.
 use Prim.Native.Nat.{ℕ, zero, suc, _+_, _≤_, _<_, _/_, _%_}
 use mathlib.Core.Path.{_≡_}
-use mathlib.Core.List.{List, [], _∷_}
+use mathlib.Core.List.{List}
 use mathlib.Core.Bool.{cond}
 use lib.ListN.{getD, length}
-use lib.Dec.{eqb, ltb}
+use lib.Dec.{ltb}
 use Rattle.fields.specs.declared.Layout.{Layout}
 use Rattle.strategy.specs.declared.AgreementStrategy.{AgreementStrategy}
 use Rattle.bases.specs.Base.{half, baseAt, qualityAt}
@@ -47,22 +47,6 @@ pub record Gathered (m : AgreementStrategy) (a b : List ℕ) (y z : Layout) (i j
   pub lanes : LanesOf (λ (t : ℕ). laneOf m (cond (ltb t n) (baseAt a y (i + t)) 15) (qualityAt a y (i + t)) (baseAt b z (j + t)) (qualityAt b z (j + t))) l
   pub bytes₁ : (k : ℕ) → getD a k 0 < 256
   pub bytes₂ : (k : ℕ) → getD b k 0 < 256
-
--- the lanes t to t + m - 1 whose d is not 0, as pairs of offsets
-unfoldable pub picked : (ℕ → ℕ) → ℕ → ℕ → ℕ → ℕ → List (ℕ × ℕ)
-picked d i j t zero = []
-picked d i j t (suc m) = cond (eqb (d t) 0) (picked d i j (suc t) m) ((i + t, j + t) ∷ picked d i j (suc t) m)
-
--- the lanes from t to r are 0
-pub record Passed (d : ℕ → ℕ) (t n r : ℕ) : Type 0 where
-  pub low : t ≤ r
-  pub high : r ≤ n
-  pub zeros : (u : ℕ) → t ≤ u → u < r → d u ≡ 0
-
--- and lane r is not, unless it is n
-pub record NextOf (d : ℕ → ℕ) (t n r : ℕ) : Type 0 where
-  pub passed : Passed d t n r
-  pub found : r < n → d r ≡ 0 → ⊥
 
 -- r of n positions go into a block; a and b bytes are left in the records from the block's qualities on
 pub record BlockSize (n a b r : ℕ) : Type 0 where

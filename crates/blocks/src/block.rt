@@ -1,13 +1,12 @@
 // A block: up to 32 shared positions in a row. All lanes are computed at once, the new qualities are
 // stored in one piece, and only the lanes whose bases differ are then treated one by one.
-use crate::differing;
 use fields::Layout;
 use fields::ReadOffset;
 use stats::CorrectionStats;
 use strategy::AgreementStrategy;
 use strategy::Strategies;
 ghost use mathlib.Core.Path.{_≡_};
-ghost use Prim.Native.Nat.{ℕ, _+_, _*_, _≤_, _<_};
+ghost use Prim.Native.Nat.{ℕ, _+_, _*_, _≤_};
 ghost use lib.ListN.{length, getD};
 ghost use lib.Seq.{sets};
 ghost use Rattle.fields.specs.Sound.{Lies};

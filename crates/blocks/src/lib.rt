@@ -1,7 +1,6 @@
 // Shared positions treated many at a time: `treat_row` answers what `positions::treat_row` answers,
 // and takes a tenth of its instructions on long rows.
 mod block;
-mod differing;
 
 use fields::Layout;
 use fields::ReadOffset;

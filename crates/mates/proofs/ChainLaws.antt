@@ -13,10 +13,12 @@ use lib.ListN.{length, getD, set, length-set}
 use lib.Seq.{getD-set-same, getD-set-other}
 use Rattle.fields.specs.Layout.{nameIn}
 use Rattle.frames.specs.Frame.{recordOf}
-use Rattle.mates.specs.Register.{placeIn, placeAt, nameAt, sameBytes, fits, holder}
-use Rattle.mates.specs.Table.{digestOf, keyIn, Keyed, chainOf, lastIn, Chained}
-use Rattle.mates.proofs.NameLaws.{and-true, same-true}
+use Rattle.mates.specs.Register.{placeIn, placeAt, nameAt, fits, holder}
+use Rattle.mates.specs.Table.{keyIn, Keyed, chainOf, lastIn, Chained}
 use Rattle.mates.proofs.KeyLaws.{place-small, holder-no}
+use Rattle.names.specs.Same.{sameBytes}
+use Rattle.names.specs.Digest.{digestOf}
+use Rattle.names.proofs.NameLaws.{and-true, same-true}
 
 pub last-le : (key : List ℕ) (h n : ℕ) → lastIn key h n ≤ n
 unfolding lastIn

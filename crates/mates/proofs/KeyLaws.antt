@@ -5,36 +5,15 @@ use mathlib.Core.List.{List}
 use mathlib.Core.Bool.{Bool, true, false, cond, _&&_, _||_}
 use native.Mathlib.Numerals.{add-one}
 use native.Mathlib.Omega.{arith}
-use borrow.Author.Tests.{eqb-true, eq-eqb, ne-eqb, lt-ltb, le-ltb}
+use borrow.Author.Tests.{eqb-true, eq-eqb, ne-eqb}
 use lib.Dec.{eqb}
-use lib.ListN.{length, getD}
-use Rattle.fields.specs.Number.{unsigned}
 use Rattle.fields.specs.Flag.{hasBit}
 use Rattle.fields.specs.Layout.{header, nameIn}
-use Rattle.mates.specs.Register.{placeBy, placeIn, nameAt, sameBytes, fits, holder, mateOf}
-use Rattle.mates.specs.Table.{mixOf, mixed, digestOf, keyIn}
-use Rattle.mates.proofs.NameLaws.{same-true, same-refl}
-
--- ---- the digest, by the turns of its loops
-pub mixed-next : (w h n i k m : ℕ) (x : List ℕ) → k ≡ suc m → n ≡ unsigned w x i → mixed w h x i k ≡ mixed w (mixOf h n) x (i + w) m
-unfolding mixed
-mixed-next w h n i k m x e f = rw (e, f)
-
-pub mixed-end : (w h i k : ℕ) (x : List ℕ) → k ≡ 0 → mixed w h x i k ≡ h
-unfolding mixed
-mixed-end w h i k x e = rw e
-
-pub one-byte : (x : List ℕ) (i : ℕ) → getD x i 0 ≡ unsigned 1 x i
-unfolding unsigned
-one-byte x i = omega arith
-
-pub digest-short : (x : List ℕ) → length x < 8 → mixed 1 0 x 0 (length x) ≡ digestOf x
-unfolding digestOf
-digest-short x h = rw (lt-ltb (length x) 8 h)
-
-pub digest-long : (x : List ℕ) (h n : ℕ) → 8 ≤ length x → h ≡ mixed 8 0 x 0 (length x / 8) → n ≡ unsigned 8 x (length x - 8) → mixOf h n ≡ digestOf x
-unfolding digestOf
-digest-long x h n k e f = rw (le-ltb (length x) 8 k, e, f)
+use Rattle.mates.specs.Register.{placeBy, placeIn, nameAt, fits, holder, mateOf}
+use Rattle.mates.specs.Table.{keyIn}
+use Rattle.names.specs.Same.{sameBytes}
+use Rattle.names.specs.Digest.{digestOf}
+use Rattle.names.proofs.NameLaws.{same-true, same-refl}
 
 cond-small : (t : Bool) (a b : ℕ) → a < 3 → b < 3 → cond t a b < 3
 cond-small true a b h k = h

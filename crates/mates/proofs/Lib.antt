@@ -1,4 +1,3 @@
-pub mod NameLaws
 pub mod KeyLaws
 pub mod ChainLaws
 pub mod OnceLaws

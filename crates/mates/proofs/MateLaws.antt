@@ -8,12 +8,13 @@ use native.Mathlib.Omega.{arith}
 use borrow.Author.Tests.{eqb-true, eq-eqb}
 use lib.Dec.{eqb}
 use Rattle.fields.proofs.Arith.{lt-or-le}
-use Rattle.mates.specs.Register.{placeAt, nameAt, sameBytes, fits, holder, mateOf, matesOf, mateCons, pairsFrom, pairsOf}
+use Rattle.mates.specs.Register.{placeAt, nameAt, fits, holder, mateOf, matesOf, mateCons, pairsFrom, pairsOf}
 use Rattle.fields.specs.Among.{Among}
 use Rattle.fields.proofs.AmongLaws.{here, later, among-cons, among-none}
 use Rattle.mates.specs.Promise.{Mates}
-use Rattle.mates.proofs.NameLaws.{and-true, same-true, same-refl}
 use Rattle.mates.proofs.OnceLaws.{mated}
+use Rattle.names.specs.Same.{sameBytes}
+use Rattle.names.proofs.NameLaws.{and-true, same-true, same-refl}
 
 -- the holder is the last
 module _ (P : ℕ → ℕ) (N : ℕ → List ℕ) (q : ℕ) (x : List ℕ) where

@@ -9,9 +9,10 @@ use borrow.Author.Tests.{eqb-true, eqb-false, eq-eqb, ne-eqb}
 use lib.Dec.{eqb}
 use lib.ListN.{length}
 use Rattle.fields.proofs.Arith.{lt-or-le}
-use Rattle.mates.specs.Register.{placeAt, nameAt, sameBytes, fits, holder, mateOf, mateCons, pairsFrom, pairsOf}
+use Rattle.mates.specs.Register.{placeAt, nameAt, fits, holder, mateOf, mateCons, pairsFrom, pairsOf}
 use Rattle.mates.specs.Promise.{one, times, Once}
-use Rattle.mates.proofs.NameLaws.{and-true, cond-suc, same-true}
+use Rattle.names.specs.Same.{sameBytes}
+use Rattle.names.proofs.NameLaws.{and-true, cond-suc, same-true}
 
 pub record Holds (P : ℕ → ℕ) (N : ℕ → List ℕ) (q : ℕ) (x : List ℕ) (n k : ℕ) : Type 0 where
   pub below : k < n

@@ -1,11 +1,12 @@
 -- Who is paired with whom.
 use Prim.Native.Nat.{ℕ, zero, suc}
-use mathlib.Core.Bool.{Bool, true, false, cond, _&&_, _||_}
+use mathlib.Core.Bool.{Bool, cond, _&&_, _||_}
 use mathlib.Core.List.{List, [], _∷_}
 use lib.Dec.{eqb}
 use Rattle.fields.specs.Flag.{hasBit}
 use Rattle.fields.specs.Layout.{header, nameIn}
 use Rattle.frames.specs.Frame.{recordOf}
+use Rattle.names.specs.Same.{sameBytes}
 
 -- the place that flags register: none (0) with 256 or 2048; with 64 first (1), even if 128 is set; else with 128 last (2); else none
 unfoldable pub placeBy : ℕ → ℕ
@@ -20,13 +21,6 @@ placeAt s k = placeIn (recordOf s k)
 
 abbrev pub nameAt : List ℕ → ℕ → List ℕ
 nameAt s k = nameIn (recordOf s k)
-
--- names compare by their bytes
-abbrev pub sameBytes : List ℕ → List ℕ → Bool
-sameBytes [] [] = true
-sameBytes [] (b ∷ y) = false
-sameBytes (a ∷ x) [] = false
-sameBytes (a ∷ x) (b ∷ y) = eqb a b && sameBytes x y
 
 -- below, P and N give the place and the name of each record
 -- whether record k is of place q and name x

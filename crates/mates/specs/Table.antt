@@ -1,27 +1,14 @@
 -- What the tables hold by which mates are found.
-use Prim.Native.Nat.{ℕ, zero, suc, _+_, _-_, _*_, _/_, _%_, _<_, _≤_}
+use Prim.Native.Nat.{ℕ, zero, suc, _+_, _*_, _/_, _%_, _<_, _≤_}
 use mathlib.Core.Bool.{cond}
-use mathlib.Core.List.{List, [], _∷_}
+use mathlib.Core.List.{List}
 use mathlib.Core.Path.{_≡_}
-use lib.Dec.{eqb, ltb}
+use lib.Dec.{eqb}
 use lib.ListN.{length, getD}
-use Rattle.fields.specs.Number.{unsigned}
 use Rattle.fields.specs.Layout.{nameIn}
 use Rattle.frames.specs.Frame.{recordOf}
+use Rattle.names.specs.Digest.{digestOf}
 use Rattle.mates.specs.Register.{placeIn, matesOf}
-
--- a digest of a name, below 2 ^ 62
-abbrev pub mixOf : ℕ → ℕ → ℕ
-mixOf h n = (h % 137438953472 + n % 137438953472 + n / 137438953472) * 10368889
-
--- the digest h with k more numbers of w bytes each, from byte i on
-unfoldable pub mixed : ℕ → ℕ → List ℕ → ℕ → ℕ → ℕ
-mixed w h x i zero = h
-mixed w h x i (suc k) = mixed w (mixOf h (unsigned w x i)) x (i + w) k
-
--- of a name of eight bytes and more its eights and its last eight; of a shorter one its bytes
-unfoldable pub digestOf : List ℕ → ℕ
-digestOf x = cond (ltb (length x) 8) (mixed 1 0 x 0 (length x)) (mixOf (mixed 8 0 x 0 (length x / 8)) (unsigned 8 x (length x - 8)))
 
 -- records of one name and place have one key
 unfoldable pub keyIn : List ℕ → ℕ

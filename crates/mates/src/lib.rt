@@ -7,20 +7,14 @@ ghost use lib.ListN.{length, getD};
 ghost use Rattle.fields.specs.Layout.{layoutOf, nameIn};
 ghost use Rattle.fields.specs.Sound.{Sound};
 ghost use Rattle.frames.specs.Table.{Placed};
-ghost use Rattle.mates.specs.Register.{placeBy, placeIn, placeAt, nameAt, sameBytes, fits, holder, matesOf};
-ghost use Rattle.mates.specs.Table.{mixOf, mixed, digestOf, keyIn, Keyed, chainOf, Chained, Mated};
+ghost use Rattle.mates.specs.Register.{placeBy, placeIn, placeAt, nameAt, fits, holder, matesOf};
+ghost use Rattle.mates.specs.Table.{keyIn, Keyed, chainOf, Chained, Mated};
+ghost use Rattle.names.specs.Same.{sameBytes};
 
 // The places that a record may register for; 0 is none.
 const FIRST: u64 = 1;
 
 const LAST: u64 = 2;
-
-// The byte as a wider number.
-fn wide(x: u8) -> u64
-    ensures { λ r. ⌜ r ≡ x ⌝ }
-{
-    x as u64
-}
 
 // The place that a record with these flags registers for.
 fn place_by(f: Flags) -> u64
@@ -49,74 +43,14 @@ fn place_of(r: &[u8]) -> u64
     place_by(fields::flags_of(r))
 }
 
-// The digest with one more number.
-fn mix(h: u64, n: u64) -> u64
-    ensures { λ r. ⌜ (r ≡ mixOf h n) × (r < 4611686018427387904) ⌝ }
-{
-    (h % 137438953472 + n % 137438953472 + n / 137438953472) * 10368889
-}
-
-// The digest of a name of fewer than eight bytes.
-fn digest_bytes(x: &[u8]) -> u64
-    ensures { λ r. ⌜ (r ≡ mixed 1 0 (now (x .entry)) 0 (length (now (x .entry)))) × (r < 4611686018427387904) ⌝ }
-{
-    let mut h: u64 = 0;
-    let mut i = 0;
-    while i < x.len() {
-        h = mix(h, wide(x[i]));
-        i += 1;
-    }
-    h
-}
-
-// The digest of a name: of its bytes eight at a time, and of the last eight.
-fn digest(x: &[u8]) -> u64
-    ensures { λ r. ⌜ (r ≡ digestOf (now (x .entry))) × (r < 4611686018427387904) ⌝ }
-{
-    let size = x.len();
-    if size < 8 {
-        return digest_bytes(x);
-    }
-    let mut h: u64 = 0;
-    let mut i = 0;
-    while 8 <= size - i {
-        h = mix(h, fields::u64_at(x, i));
-        i += 8;
-    }
-    mix(h, fields::u64_at(x, size - 8))
-}
-
 // The key of a sound record.
 fn key_of(r: &[u8]) -> u64
     requires { ⌜ Sound (now r) (layoutOf (now r)) ⌝ }
     ensures { λ d. ⌜ d ≡ keyIn (now (r .entry)) ⌝ }
 {
     let name = fields::name_of(r);
-    let d = digest(name);
+    let d = names::digest(name);
     d * 4 + place_of(r)
-}
-
-// Whether two names have the same bytes.
-fn same(x: &[u8], y: &[u8]) -> bool
-    ensures { λ r. ⌜ r ≡ sameBytes (now (x .entry)) (now (y .entry)) ⌝ }
-{
-    if x.len() != y.len() {
-        return false;
-    }
-    let mut i = 0;
-    while 4 <= x.len() - i {
-        if fields::u32_at(x, i) != fields::u32_at(y, i) {
-            return false;
-        }
-        i += 4;
-    }
-    while i < x.len() {
-        if x[i] != y[i] {
-            return false;
-        }
-        i += 1;
-    }
-    true
 }
 
 // Whether two sound records have one name.
@@ -124,7 +58,7 @@ fn same_name(x: &[u8], y: &[u8]) -> bool
     requires { ⌜ Sound (now x) (layoutOf (now x)) × Sound (now y) (layoutOf (now y)) ⌝ }
     ensures { λ r. ⌜ r ≡ sameBytes (nameIn (now (x .entry))) (nameIn (now (y .entry))) ⌝ }
 {
-    same(fields::name_of(x), fields::name_of(y))
+    names::same(fields::name_of(x), fields::name_of(y))
 }
 
 // Enters the key of each record.

@@ -16,6 +16,6 @@ fn main() {
     let mut out = [0u8; 256];
     let written = overlap_line::overlap(&mut input, n, &mut out);
     if io::write_all(1, overlap_line::line_of(&out, written.line)) {
-        io::write_all(1, overlap_line::part(&input, 2, written.group));
+        io::write_all(1, text::part(&input, 2, written.group));
     }
 }

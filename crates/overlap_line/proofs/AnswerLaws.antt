@@ -1,7 +1,7 @@
 -- The whole answer, by the stages of the code.
 use Prim.Native.Nat.{ℕ, _+_, _-_, _<_, _≤_}
 use mathlib.Core.Path.{_≡_, refl, sym, ap, _∙_}
-use mathlib.Core.List.{List, [], _++_}
+use mathlib.Core.List.{List, _++_}
 use mathlib.Core.Option.{Option, none, some}
 use mathlib.Core.Logic.{⊎-elim}
 use native.Mathlib.Omega.{arith}
@@ -23,9 +23,9 @@ use Rattle.group.specs.declared.GroupAnswer.{GroupAnswer}
 use Rattle.group.specs.declared.GroupAnswer.the-variants.{Done, Refused}
 use Rattle.group.specs.Group.{ended, onNumbered, groupOf}
 use Rattle.group.proofs.PromiseLaws.{refused-keeps}
-use Rattle.overlap_line.specs.Line.{doneText, refusalText}
+use Rattle.text.specs.Line.{doneText, refusalText}
 use Rattle.overlap_line.specs.Overlap.{numberAt, Output, alone, outputBy, outputOf, overlapOf}
-use Rattle.overlap_line.specs.Put.{Put}
+use Rattle.text.specs.Put.{Put}
 use Rattle.overlap_line.specs.Told.{Told}
 
 -- ---- a line and no group: the input is as it came

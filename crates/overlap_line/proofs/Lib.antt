@@ -1,4 +1,2 @@
-pub mod DigitLaws
-pub mod PutLaws
 pub mod AnswerLaws
 pub mod OnceLaws

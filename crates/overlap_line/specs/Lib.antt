@@ -1,4 +1,2 @@
-pub mod Line
 pub mod Overlap
-pub mod Put
 pub mod Told

@@ -9,7 +9,7 @@ use Rattle.stats.specs.Counts.{zeroed}
 use Rattle.group.specs.declared.GroupAnswer.{GroupAnswer}
 use Rattle.group.specs.declared.GroupAnswer.the-variants.{Done, Refused}
 use Rattle.group.specs.Group.{Ended, groupOf}
-use Rattle.overlap_line.specs.Line.{doneText, refusalText}
+use Rattle.text.specs.Line.{doneText, refusalText}
 
 -- the number of the digit at byte k; 3, which names no strategy, for a missing byte or one below `0`
 abbrev pub numberAt : List ℕ → ℕ → ℕ

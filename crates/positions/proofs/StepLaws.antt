@@ -1,23 +1,21 @@
 -- Laws of treated positions: one, a row, any list.
-use Prim.Native.Nat.{ℕ, zero, suc, _+_, _-_, _*_, _/_, _%_, _≤_, _<_}
-use mathlib.Core.Path.{_≡_, refl, sym, ap, _∙_}
+use Prim.Native.Nat.{ℕ, zero, suc, _+_, _-_, _*_, _%_, _≤_, _<_}
+use mathlib.Core.Path.{_≡_, refl, ap, _∙_}
 use mathlib.Core.List.{List, [], _∷_, _++_}
 use native.Mathlib.Omega.{arith}
 use lib.ListN.{length, take}
-use Rattle.fields.specs.declared.Layout.{Layout}
 use Rattle.stats.specs.declared.CorrectionStats.{CorrectionStats}
 use Rattle.stats.specs.Counts.{plus}
-use Rattle.stats.specs.Room.{Room, Adds, AtMost}
+use Rattle.stats.specs.Room.{Room}
 use Rattle.stats.proofs.CountLaws.{room-less, room-plus}
-use Rattle.strategy.specs.declared.Strategies.{Strategies}
 use Rattle.strategy.specs.declared.Treated.{Treated}
 use Rattle.strategy.specs.Rule.{treated}
 use Rattle.strategy.proofs.RuleLaws.{Fine, fine}
 use Rattle.bases.specs.declared.Seen.{Seen}
-use Rattle.bases.specs.Base.{baseAt, qualityAt}
+use Rattle.bases.specs.Base.{qualityAt}
 use Rattle.bases.specs.Written.{withSeen, SeenAt}
 use Rattle.bases.proofs.BaseLaws.{half-small, put-length, put-front}
-use Rattle.positions.specs.Step.{Job, State, state, ruled, growths}
+use Rattle.positions.specs.Step.{Job, State, state, ruled}
 use Rattle.positions.specs.Treating.{wrote, step, steps, row}
 
 -- ---- one position

@@ -1,10 +1,11 @@
 -- `mates::key_of` meets its contract. Assumes nothing.
 use mathlib.Core.Path.{ap, ap₂, _∙_}
 use Prim.Native.Nat.{ℕ, _+_, _-_, _*_}
-use Rattle.mates.specs.Table.{digestOf, keyIn}
+use Rattle.mates.specs.Table.{keyIn}
 use borrow.Author.Needs.{needs}
 use Rattle.mates.proofs.key_of.Statement.{statement}
 use Rattle.mates.proofs.key_of.Tie as tie
+use Rattle.names.specs.Digest.{digestOf}
 
 name-of-requires : tie.Need-name-of-requires
 name-of-requires c κs = search needs

@@ -1,10 +1,10 @@
 -- `mates::same_name` meets its contract. Assumes nothing.
 use mathlib.Core.Path.{ap₂, _∙_}
 use Prim.Native.Nat.{_-_}
-use Rattle.mates.specs.Register.{sameBytes}
 use borrow.Author.Needs.{needs}
 use Rattle.mates.proofs.same_name.Statement.{statement}
 use Rattle.mates.proofs.same_name.Tie as tie
+use Rattle.names.specs.Same.{sameBytes}
 
 name-of-requires : tie.Need-name-of-requires
 name-of-requires c κs = search needs
