@@ -1,9 +1,11 @@
 #!/bin/sh
 # The exported call and the program against the published Rust and a model of document 01.
 #
-#   scripts/differential.sh [gate|full|lists] [SEED] [FOLDER]
+#   scripts/differential.sh [gate|pairs|groups|full|lists] [SEED] [FOLDER]
 #
 # gate   (default) a fresh run of about a minute; SEED is the time unless given, and is printed
+# pairs  the part of it that needs the archive alone
+# groups the other part, which needs the program; the judge is as `pairs` built it
 # full   the same at length: 46.8 million pairs and 120,000 groups in four to eight minutes
 # lists  all lists of up to three operations of lengths 1 and 2 in both reads: 225 million pairs
 #
@@ -14,7 +16,7 @@ set -eu
 size=gate seed=$(date +%s)
 for word; do
     case $word in
-    gate | full | lists) size=$word ;;
+    gate | pairs | groups | full | lists) size=$word ;;
     *[!0-9]*) PUBLISHED=$word ;;
     *) seed=$word ;;
     esac
@@ -26,37 +28,32 @@ if [ ! -f "$PUBLISHED/crates/fgumi-consensus/src/overlapping.rs" ] || ! have_rus
 fi
 need_archive
 case $size in
-gate) pairs=1000000 few=300000 groups=15000 ;;
+gate | pairs | groups) pairs=1000000 few=300000 groups=15000 ;;
 full) pairs=16000000 few=3000000 groups=120000 ;;
 esac
-"$root/oracle/build.sh" "$PUBLISHED" "$ARCHIVE"
 judge=$root/target/oracle/judge
+[ "$size" = groups ] && [ -x "$judge" ] || "$root/oracle/build.sh" "$PUBLISHED" "$ARCHIVE"
 echo "seed $seed"
 if [ "$size" = lists ]; then
     exec "$judge" short 3 3 2 "$seed"
 fi
-"$judge" classes >"$root/target/oracle/classes.out"
-echo "the smallest inputs of the known classes do what docs/DIFFERENCES.md says"
-# the lists beside the rest, as two processors are common
-lists() {
+if [ "$size" != groups ]; then
+    "$judge" classes >"$root/target/oracle/classes.out"
+    echo "the smallest inputs of the known classes do what docs/DIFFERENCES.md says"
+    "$judge" limits
+    "$judge" random "$seed" $pairs
+    "$judge" damaged "$seed" $few
+    "$judge" extremes "$seed" $few
     "$judge" short 3 3 1 "$seed"
     "$judge" short 2 2 2 "$seed"
-    if [ "$size" = full ]; then
-        "$judge" short 3 2 2 "$seed"
-        "$judge" short 2 3 2 "$seed"
-    fi
-}
-lists >"$root/target/oracle/lists.out" 2>&1 &
-"$judge" limits
-"$judge" random "$seed" $pairs
-"$judge" damaged "$seed" $few
-"$judge" extremes "$seed" $few
-wait $! || { cat "$root/target/oracle/lists.out"; exit 1; }
-cat "$root/target/oracle/lists.out"
-if [ -x "$PROGRAM" ]; then
+fi
+if [ "$size" = full ]; then
+    "$judge" short 3 2 2 "$seed"
+    "$judge" short 2 3 2 "$seed"
+fi
+if [ "$size" != pairs ]; then
+    need_program
     "$judge" group-limits "$PROGRAM"
     "$judge" groups "$PROGRAM" "$seed" $groups
-else
-    echo "NO GROUPS COMPARED: the program isn't there; make it by: rt check overlap"
+    "$root/scripts/store-answers.sh" --check
 fi
-"$root/scripts/store-answers.sh" --check
