@@ -2,8 +2,7 @@
 use Prim.Native.Nat.{ℕ}
 use mathlib.Core.Path.{_≡_, refl, sym, ap, _∙_}
 use mathlib.Core.List.{List}
-use mathlib.Core.Bool.{Bool, true, false, cond, _||_, not}
-use lib.IntN.{ℤ}
+use mathlib.Core.Bool.{Bool, true, false, cond, _||_}
 use Rattle.fields.specs.declared.Layout.{Layout}
 use Rattle.cigar.specs.declared.Extent.{Extent}
 use Rattle.fields.specs.declared.Placed.{Placed}
@@ -19,7 +18,10 @@ use Rattle.cigar.specs.declared.Span.the-variants as Spans
 use Rattle.cigar.specs.Judge.{operationsOf, spanOf}
 use Rattle.judgement.specs.declared.Judged.{Judged}
 use Rattle.judgement.specs.declared.Judged.the-variants as Judge
+use Rattle.judgement.specs.declared.Where.{Where}
+use Rattle.judgement.specs.declared.Where.the-variants.{Apart, On}
 use Rattle.judgement.specs.Judgement.{onUses, onSpan, onPlaced, spanIn, mappedOf, judgedOf}
+use Rattle.judgement.specs.Where.{bothAt, whereOf, onWhere}
 
 -- a refusal is handed on, whatever would have followed
 pub uses-refused : (o : Operations) (r : Refusal) (f g : ℕ → Span) → o ≡ Ops.Refused r → onUses o f ≡ onUses o g
@@ -33,45 +35,62 @@ pub span-as : (y : Layout) (s : List ℕ) (pos place : ℕ) (o o′ : Operations
 unfolding spanIn
 span-as y s pos place o o′ e f = ap (λ (x : Operations). onUses x (λ n. spanOf pos n place)) (sym f ∙ e)
 
-module _ (y z : Layout) (a b : List ℕ) (i j : ℕ) where
-  pub ids-differ : sameId (header a .refId) (header b .refId) ≡ false → Judge.Apart ≡ mappedOf y z a b i j
-  unfolding mappedOf
-  ids-differ e = rw e
-
-  module _ (same : sameId (header a .refId) (header b .refId) ≡ true) where
-    pub first-unplaced : placedOf (header a .pos) ≡ Unplaced → Judge.Apart ≡ mappedOf y z a b i j
-    unfolding mappedOf
-    first-unplaced e = rw (same, e)
-
-    module _ (p : ℕ) (at₁ : placedOf (header a .pos) ≡ At p) where
-      pub second-unplaced : placedOf (header b .pos) ≡ Unplaced → Judge.Apart ≡ mappedOf y z a b i j
-      unfolding mappedOf
-      second-unplaced e = rw (same, at₁, e)
-
-      module _ (q : ℕ) (at₂ : placedOf (header b .pos) ≡ At q) where
-        whole : onSpan (spanIn y a p i) (λ s. onSpan (spanIn z b q j) (λ t. Judge.Both s t)) ≡ mappedOf y z a b i j
-        unfolding mappedOf
-        whole = rw (same, at₁, at₂)
-
-        pub first-span : (x : Span) (r : Refusal) → x ≡ spanIn y a p i → x ≡ Spans.Refused r → onSpan x (λ s. Judge.Apart) ≡ mappedOf y z a b i j
-        first-span x r e f = span-refused x r (λ s. Judge.Apart) _ f ∙ (ap (λ (u : Span). onSpan u (λ s. onSpan (spanIn z b q j) (λ t. Judge.Both s t))) e ∙ whole)
-
-        pub second-span : (s : Extent) (x u : Span) (r : Refusal) → x ≡ spanIn y a p i → x ≡ Spans.Covers s → u ≡ spanIn z b q j → u ≡ Spans.Refused r
-            → onSpan u (λ t. Judge.Apart) ≡ mappedOf y z a b i j
-        second-span s x u r e f g h = span-refused u r (λ t. Judge.Apart) (λ t. Judge.Both s t) h ∙ (rw (sym e ∙ f, sym g) at whole)
-
-        pub both-spans : (s t : Extent) (x u : Span) → x ≡ spanIn y a p i → x ≡ Spans.Covers s → u ≡ spanIn z b q j → u ≡ Spans.Covers t → Judge.Both s t ≡ mappedOf y z a b i j
-        both-spans s t x u e f g h = (rw (sym e ∙ f, sym g ∙ h) at whole)
-
-module _ (y z : Layout) (a b : List ℕ) (i j : ℕ) where
-  pub first-unmapped : hasBit (header a .flags) 4 ≡ true → Judge.Apart ≡ judgedOf y z a b i j
-  unfolding judgedOf
+-- where two records lie, by the headers
+module _ (a b : List ℕ) where
+  pub first-unmapped : hasBit (header a .flags) 4 ≡ true → Apart ≡ whereOf a b
+  unfolding whereOf
   first-unmapped e = rw e
 
-  pub second-unmapped : hasBit (header a .flags) 4 ≡ false → hasBit (header b .flags) 4 ≡ true → Judge.Apart ≡ judgedOf y z a b i j
-  unfolding judgedOf
-  second-unmapped e f = rw (e, f)
+  module _ (mapped₁ : hasBit (header a .flags) 4 ≡ false) where
+    pub second-unmapped : hasBit (header b .flags) 4 ≡ true → Apart ≡ whereOf a b
+    unfolding whereOf
+    second-unmapped e = rw (mapped₁, e)
 
-  pub both-mapped : hasBit (header a .flags) 4 ≡ false → hasBit (header b .flags) 4 ≡ false → mappedOf y z a b i j ≡ judgedOf y z a b i j
-  unfolding judgedOf
-  both-mapped e f = rw (e, f)
+    module _ (mapped₂ : hasBit (header b .flags) 4 ≡ false) where
+      pub ids-differ : sameId (header a .refId) (header b .refId) ≡ false → Apart ≡ whereOf a b
+      unfolding whereOf
+      ids-differ e = rw (mapped₁, mapped₂, e)
+
+      module _ (same : sameId (header a .refId) (header b .refId) ≡ true) where
+        pub first-unplaced : placedOf (header a .pos) ≡ Unplaced → Apart ≡ whereOf a b
+        unfolding whereOf
+        first-unplaced e = rw (mapped₁, mapped₂, same, e)
+
+        module _ (p : ℕ) (at₁ : placedOf (header a .pos) ≡ At p) where
+          pub second-unplaced : placedOf (header b .pos) ≡ Unplaced → Apart ≡ whereOf a b
+          unfolding whereOf
+          second-unplaced e = rw (mapped₁, mapped₂, same, at₁, e)
+
+          pub both-placed : (q : ℕ) → placedOf (header b .pos) ≡ At q → On p q ≡ whereOf a b
+          unfolding whereOf
+          both-placed q e = rw (mapped₁, mapped₂, same, at₁, e)
+
+-- where two records lie, then what each covers: that is the judgement
+module _ (y z : Layout) (a b : List ℕ) (i j : ℕ) where
+  pub where-judged : onWhere (whereOf a b) (λ p q. onSpan (spanIn y a p i) (λ s. onSpan (spanIn z b q j) (λ t. Judge.Both s t))) ≡ judgedOf y z a b i j
+  unfolding whereOf judgedOf mappedOf
+  where-judged = go (hasBit (header a .flags) 4 || hasBit (header b .flags) 4) (sameId (header a .refId) (header b .refId)) (placedOf (header a .pos)) (placedOf (header b .pos))
+    where
+      go : (t u : Bool) (k l : Placed)
+          → onWhere (cond t Apart (cond u (bothAt k l) Apart)) (λ p q. onSpan (spanIn y a p i) (λ s. onSpan (spanIn z b q j) (λ t. Judge.Both s t)))
+          ≡ cond t Judge.Apart (cond u (onPlaced k (λ p. onPlaced l (λ q. onSpan (spanIn y a p i) (λ s. onSpan (spanIn z b q j) (λ t. Judge.Both s t))))) Judge.Apart)
+      go true u k l = refl
+      go false true (At p) (At q) = refl
+      go false true (At p) Unplaced = refl
+      go false true Unplaced l = refl
+      go false false k l = refl
+
+  module _ (k : Where) (found : k ≡ whereOf a b) where
+    pub judged-as : (k′ : Where) → k ≡ k′ → onWhere k′ (λ p q. onSpan (spanIn y a p i) (λ s. onSpan (spanIn z b q j) (λ t. Judge.Both s t))) ≡ judgedOf y z a b i j
+    judged-as k′ e = ap (λ (u : Where). onWhere u (λ p q. onSpan (spanIn y a p i) (λ s. onSpan (spanIn z b q j) (λ t. Judge.Both s t)))) (sym e ∙ found) ∙ where-judged
+
+    module _ (p q : ℕ) (on : k ≡ On p q) where
+      pub first-span : (x : Span) (r : Refusal) → x ≡ spanIn y a p i → x ≡ Spans.Refused r → onSpan x (λ s. Judge.Apart) ≡ judgedOf y z a b i j
+      first-span x r e f = span-refused x r (λ s. Judge.Apart) _ f ∙ (ap (λ (u : Span). onSpan u (λ s. onSpan (spanIn z b q j) (λ t. Judge.Both s t))) e ∙ judged-as (On p q) on)
+
+      pub second-span : (s : Extent) (x u : Span) (r : Refusal) → x ≡ spanIn y a p i → x ≡ Spans.Covers s → u ≡ spanIn z b q j → u ≡ Spans.Refused r
+          → onSpan u (λ t. Judge.Apart) ≡ judgedOf y z a b i j
+      second-span s x u r e f g h = span-refused u r (λ t. Judge.Apart) (λ t. Judge.Both s t) h ∙ (rw (sym e ∙ f, sym g) at (judged-as (On p q) on))
+
+      pub both-spans : (s t : Extent) (x u : Span) → x ≡ spanIn y a p i → x ≡ Spans.Covers s → u ≡ spanIn z b q j → u ≡ Spans.Covers t → Judge.Both s t ≡ judgedOf y z a b i j
+      both-spans s t x u e f g h = (rw (sym e ∙ f, sym g ∙ h) at (judged-as (On p q) on))

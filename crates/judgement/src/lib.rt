@@ -11,12 +11,14 @@ use refusal::Refusal;
 use stats::CorrectionStats;
 use strategy::Strategies;
 ghost use mathlib.Core.Path.{_≡_};
-ghost use Prim.Native.Nat.{ℕ};
+ghost use Prim.Native.Nat.{ℕ, _≤_};
+ghost use lib.ListN.{length};
 ghost use Rattle.fields.specs.Sound.{Sound};
 ghost use Rattle.stats.specs.Room.{Room};
 ghost use Rattle.positions.specs.Step.{state, job};
-ghost use Rattle.judgement.specs.Judgement.{onUses, onSpan, spanIn, mappedOf, judgedOf};
+ghost use Rattle.judgement.specs.Judgement.{onUses, onSpan, spanIn, judgedOf};
 ghost use Rattle.judgement.specs.Ready.{Ready, TreatedTo};
+ghost use Rattle.judgement.specs.Where.{whereOf};
 
 // Two sound records judged: refused, apart for what their headers say, or both placed on one
 // reference, each with the positions that it covers.
@@ -24,6 +26,41 @@ pub enum Judged {
     Refused(Refusal),
     Apart,
     Both(Extent, Extent),
+}
+
+// Where two records lie: apart for what their headers say, or both on one reference at these
+// positions.
+pub enum Where {
+    Apart,
+    On(u32, u32),
+}
+
+// Steps 4 to 6 of the order of judgement, from the headers alone.
+pub fn place(first: &[u8], second: &[u8]) -> Where
+    requires { ⌜ (32 ≤ length (now first)) × (32 ≤ length (now second)) ⌝ }
+    ensures { λ r. ⌜ r ≡ whereOf (now (first .entry)) (now (second .entry)) ⌝ }
+{
+    let f = fields::flags_of(first);
+    if f.unmapped() {
+        return Where::Apart;
+    }
+    let g = fields::flags_of(second);
+    if g.unmapped() {
+        return Where::Apart;
+    }
+    let same = fields::same_reference(first, second);
+    if !same {
+        return Where::Apart;
+    }
+    let at1 = fields::start_of(first);
+    let Placed::At(pos1) = at1 else {
+        return Where::Apart;
+    };
+    let at2 = fields::start_of(second);
+    let Placed::At(pos2) = at2 else {
+        return Where::Apart;
+    };
+    Where::On(pos1, pos2)
 }
 
 // The refusal of operations, as the answer of a span.
@@ -40,7 +77,7 @@ fn unspanned(o: Operations) -> Span
 }
 
 // What the alignment of a sound record covers: its operations judged, then its end.
-fn span_of(s: &[u8], y: Layout, pos: u32, place: u16) -> Span
+pub fn span_of(s: &[u8], y: Layout, pos: u32, place: u16) -> Span
     requires { ⌜ Sound (now s) y ⌝ }
     ensures { λ r. ⌜ r ≡ spanIn y (now (s .entry)) pos place ⌝ }
 {
@@ -61,28 +98,13 @@ fn unplaced(p: Span) -> Judged
     }
 }
 
-// Two sound records with mapped flags: steps 5 to 7 of the order of judgement.
-fn judge_mapped(
-    first: &[u8],
-    second: &[u8],
-    y: Layout,
-    z: Layout,
-    place1: u16,
-    place2: u16,
-) -> Judged
+// Two sound records judged by steps 4 to 7, from their bytes alone; a refusal names the place given.
+pub fn judge(first: &[u8], second: &[u8], y: Layout, z: Layout, place1: u16, place2: u16) -> Judged
     requires { ⌜ Sound (now first) y × Sound (now second) z ⌝ }
-    ensures { λ r. ⌜ r ≡ mappedOf y z (now (first .entry)) (now (second .entry)) place1 place2 ⌝ }
+    ensures { λ r. ⌜ r ≡ judgedOf y z (now (first .entry)) (now (second .entry)) place1 place2 ⌝ }
 {
-    let same = fields::same_reference(first, second);
-    if !same {
-        return Judged::Apart;
-    }
-    let at1 = fields::start_of(first);
-    let Placed::At(pos1) = at1 else {
-        return Judged::Apart;
-    };
-    let at2 = fields::start_of(second);
-    let Placed::At(pos2) = at2 else {
+    let at = place(first, second);
+    let Where::On(pos1, pos2) = at else {
         return Judged::Apart;
     };
     let span1 = span_of(first, y, pos1, place1);
@@ -94,22 +116,6 @@ fn judge_mapped(
         return unplaced(span2);
     };
     Judged::Both(extent1, extent2)
-}
-
-// Two sound records judged by steps 4 to 7, from their bytes alone; a refusal names the place given.
-pub fn judge(first: &[u8], second: &[u8], y: Layout, z: Layout, place1: u16, place2: u16) -> Judged
-    requires { ⌜ Sound (now first) y × Sound (now second) z ⌝ }
-    ensures { λ r. ⌜ r ≡ judgedOf y z (now (first .entry)) (now (second .entry)) place1 place2 ⌝ }
-{
-    let f = fields::flags_of(first);
-    if f.unmapped() {
-        return Judged::Apart;
-    }
-    let g = fields::flags_of(second);
-    if g.unmapped() {
-        return Judged::Apart;
-    }
-    judge_mapped(first, second, y, z, place1, place2)
 }
 
 // No shared position.

@@ -1,6 +1,6 @@
 -- A pair judged, by what the code finds; and one turn of the loop over the pairs.
 use Prim.Native.Nat.{ℕ, suc, _+_, _-_, _<_, _≤_}
-use mathlib.Core.Path.{_≡_, sym, ap, _∙_}
+use mathlib.Core.Path.{_≡_, refl, sym, ap, _∙_}
 use mathlib.Core.List.{List, []}
 use native.Mathlib.Numerals.{add-one}
 use native.Mathlib.Omega.{arith}
@@ -9,14 +9,31 @@ use Rattle.fields.specs.declared.Layout.{Layout}
 use Rattle.fields.specs.declared.Checked.{Checked}
 use Rattle.fields.specs.declared.Checked.the-variants.{Good, Bad}
 use Rattle.fields.specs.Check.{checkOf}
-use Rattle.judgement.specs.declared.Judged.{Judged}
-use Rattle.judgement.specs.Judgement.{judgedOf}
+use Rattle.cigar.specs.declared.Extent.{Extent}
+use Rattle.cigar.specs.declared.Span.{Span}
+use Rattle.cigar.specs.declared.Span.the-variants as Spans
+use Rattle.judgement.specs.declared.Judged.the-variants as Judge
+use Rattle.judgement.specs.declared.Where.{Where}
+use Rattle.judgement.specs.Judgement.{onSpan, spanIn}
+use Rattle.judgement.specs.Where.{whereOf, onWhere}
+use Rattle.judgement.proofs.JudgeLaws.{judged-as}
 use Rattle.mates.specs.Register.{placeAt, nameAt, matesOf, mateCons, pairsFrom}
 use Rattle.mates.proofs.OnceLaws.{mate-below}
 use Rattle.verdicts.specs.declared.Verdict.{Verdict}
 use Rattle.verdicts.specs.declared.Verdict.the-variants.{Passed, Refused}
 use Rattle.verdicts.specs.Judged.{onVerdict, judgeBy}
 use Rattle.verdicts.specs.Indexed.{ofChecked, ofJudged, indexedOf}
+
+-- ---- what two records cover
+pub first-refused : (u v u′ : Span) (r : Refusal) → u ≡ u′ → u ≡ Spans.Refused r → ofJudged (onSpan u (λ s. Judge.Apart)) ≡ ofJudged (onSpan u′ (λ s. onSpan v (λ t. Judge.Both s t)))
+first-refused u v u′ r e f = rw (f, sym e ∙ f)
+
+pub second-decides : (u v u′ v′ : Span) (s : Extent) → u ≡ u′ → u ≡ Spans.Covers s → v ≡ v′ → ofJudged (onSpan v (λ t. Judge.Apart)) ≡ ofJudged (onSpan u′ (λ s. onSpan v′ (λ t. Judge.Both s t)))
+second-decides u v u′ v′ s e f g = rw (sym e ∙ f, sym g) (go v)
+  where
+    go : (x : Span) → ofJudged (onSpan x (λ t. Judge.Apart)) ≡ ofJudged (onSpan x (λ t. Judge.Both s t))
+    go (Spans.Covers t) = refl
+    go (Spans.Refused r) = refl
 
 -- ---- one pair
 module _ (a b : List ℕ) (i j : ℕ) where
@@ -29,9 +46,10 @@ module _ (a b : List ℕ) (i j : ℕ) where
     unfolding indexedOf
     second-bad k r e f = ap ofChecked f ∙ rw (good, sym e ∙ f)
 
-    pub both-judged : (z : Layout) (k k′ : Judged) → checkOf b j ≡ Good z → k ≡ judgedOf y z a b i j → k ≡ k′ → ofJudged k′ ≡ indexedOf a b i j
+    pub both-placed : (z : Layout) (k k′ : Where) → checkOf b j ≡ Good z → k ≡ whereOf a b → k ≡ k′
+        → ofJudged (onWhere k′ (λ p q. onSpan (spanIn y a p i) (λ s. onSpan (spanIn z b q j) (λ t. Judge.Both s t)))) ≡ indexedOf a b i j
     unfolding indexedOf
-    both-judged z k k′ g e f = ap ofJudged (sym f ∙ e) ∙ rw (good, g)
+    both-placed z k k′ g e f = ap ofJudged (judged-as y z a b i j k e k′ f) ∙ rw (good, g)
 
 -- ---- the pairs from record i on, by the mate of record i
 pub pairs-turn : (f : ℕ → ℕ) (n i m : ℕ) → i < n → m ≡ f i → pairsFrom f i (n - i) ≡ mateCons i m (pairsFrom f (i + 1) (n - (i + 1)))

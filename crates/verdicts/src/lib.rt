@@ -1,14 +1,20 @@
 // The pairs of a group judged, each from the bytes given, before any is written.
+use cigar::Extent;
+use cigar::Span;
 use fields::Checked;
+use fields::Layout;
 use judgement::Judged;
+use judgement::Where;
 use refusal::Refusal;
 ghost use mathlib.Core.Path.{_≡_};
 ghost use Prim.Native.Nat.{_<_};
 ghost use lib.ListN.{length};
+ghost use Rattle.fields.specs.Sound.{Sound};
+ghost use Rattle.judgement.specs.Judgement.{onSpan, spanIn};
 ghost use Rattle.frames.specs.Table.{Placed};
 ghost use Rattle.mates.specs.Register.{pairsOf};
 ghost use Rattle.mates.specs.Table.{Mated};
-ghost use Rattle.verdicts.specs.Indexed.{ofChecked, indexedOf, indexedAt};
+ghost use Rattle.verdicts.specs.Indexed.{ofChecked, ofJudged, indexedOf, indexedAt};
 ghost use Rattle.verdicts.specs.Judged.{judgeBy};
 
 // Whether pairs may be treated, or the refusal of the first that may not.
@@ -27,6 +33,39 @@ fn unchecked(c: Checked) -> Verdict
     }
 }
 
+// What one record covers, as the verdict on its pair.
+fn spanned(p: Span) -> Verdict
+    ensures { λ r. ⌜ r ≡ ofJudged (onSpan p (λ (s : Extent). Judged.Apart)) ⌝ }
+{
+    match p {
+        Span::Covers(_) => Verdict::Passed,
+        Span::Refused(r) => Verdict::Refused(r),
+    }
+}
+
+// Two sound records on one reference, at positions p and q: what each covers judged, the first's
+// first.
+fn spans_of(
+    first: &[u8],
+    second: &[u8],
+    y: Layout,
+    z: Layout,
+    p: u32,
+    q: u32,
+    i: u16,
+    j: u16,
+) -> Verdict
+    requires { ⌜ Sound (now first) y × Sound (now second) z ⌝ }
+    ensures { λ r. ⌜ r ≡ ofJudged (onSpan (spanIn y (now (first .entry)) p i) (λ (s : Extent). onSpan (spanIn z (now (second .entry)) q j) (λ (t : Extent). Judged.Both s t))) ⌝ }
+{
+    let span1 = judgement::span_of(first, y, p, i);
+    let Span::Covers(_) = span1 else {
+        return spanned(span1);
+    };
+    let span2 = judgement::span_of(second, z, q, j);
+    spanned(span2)
+}
+
 // Two records judged as a pair; a refusal names the index of the record at fault.
 fn judge_pair(first: &[u8], second: &[u8], i: u16, j: u16) -> Verdict
     ensures { λ r. ⌜ r ≡ indexedOf (now (first .entry)) (now (second .entry)) i j ⌝ }
@@ -39,12 +78,11 @@ fn judge_pair(first: &[u8], second: &[u8], i: u16, j: u16) -> Verdict
     let Checked::Good(z) = checked2 else {
         return unchecked(checked2);
     };
-    let judged = judgement::judge(first, second, y, z, i, j);
-    match judged {
-        Judged::Refused(r) => Verdict::Refused(r),
-        Judged::Apart => Verdict::Passed,
-        Judged::Both(_, _) => Verdict::Passed,
-    }
+    let at = judgement::place(first, second);
+    let Where::On(p, q) = at else {
+        return Verdict::Passed;
+    };
+    spans_of(first, second, y, z, p, q, i, j)
 }
 
 // Records i and j of a group judged as a pair.

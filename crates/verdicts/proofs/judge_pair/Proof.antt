@@ -1,8 +1,7 @@
 -- `verdicts::judge_pair` meets its contract. Assumes nothing.
 use mathlib.Core.Path.{sym, _∙_}
-use Prim.Native.Nat.{_-_}
 use Rattle.fields.proofs.CheckLaws.{good-sound}
-use Rattle.verdicts.proofs.JudgeLaws.{first-bad, second-bad, both-judged}
+use Rattle.verdicts.proofs.JudgeLaws.{first-bad, second-bad, both-placed}
 use denote.Ref.{now}
 use borrow.Author.Needs.{needs}
 use Rattle.verdicts.proofs.judge_pair.Statement.{statement}
@@ -22,8 +21,11 @@ unchecked-requires c κs = search needs
 
 returns : tie.Need-returns
 returns c =
-    let args = c .before .before .before .before .before .before .args in
-    c .unchecked .ensures ∙ first-bad (now (args .first)) (now (args .second)) (args .i) (args .j) (c .before .before .before .check-record .result) _ (c .before .before .before .check-record .ensures) (c .before .enum-told .given .1)
+    let by-enum-told = c .before in
+    let by-check-record = by-enum-told .before .before in
+    let entry = by-check-record .before .before .before in
+    let args = entry .args in
+    c .unchecked .ensures ∙ first-bad (now (args .first)) (now (args .second)) (args .i) (args .j) (by-check-record .check-record .result) _ (by-check-record .check-record .ensures) (by-enum-told .enum-told .given .1)
 
 check-record-requires-2 : tie.Need-check-record-requires-2
 check-record-requires-2 c κs = search needs
@@ -39,37 +41,62 @@ unchecked-requires-2 c κs = search needs
 
 returns-2 : tie.Need-returns-2
 returns-2 c =
-    let args = c .before .before .before .before .before .before .before .before .before .before .args in
-    c .unchecked2 .ensures ∙ second-bad (now (args .first)) (now (args .second)) (args .i) (args .j) (c .before .before .before .before .before .checked1 .given .0 .0) (sym (c .before .before .before .before .before .before .before .check-record .ensures) ∙ c .before .before .before .before .before .checked1 .given .1) (c .before .before .before .check-record2 .result) _ (c .before .before .before .check-record2 .ensures) (c .before .enum-told2 .given .1)
+    let by-enum-told2 = c .before in
+    let by-check-record2 = by-enum-told2 .before .before in
+    let by-checked1 = by-check-record2 .before .before in
+    let by-check-record = by-checked1 .before .before in
+    let entry = by-check-record .before .before .before in
+    let args = entry .args in
+    c .unchecked2 .ensures ∙ second-bad (now (args .first)) (now (args .second)) (args .i) (args .j) (by-checked1 .checked1 .given .0 .0) (sym (by-check-record .check-record .ensures) ∙ by-checked1 .checked1 .given .1) (by-check-record2 .check-record2 .result) _ (by-check-record2 .check-record2 .ensures) (by-enum-told2 .enum-told2 .given .1)
 
-judge-requires : tie.Need-judge-requires
-judge-requires c κs =
-    let args = c .before .before .before .before .before .before .before .before .before .before .args in
-    (good-sound _ (args .i) (c .before .before .before .before .before .checked1 .given .0 .0) (sym (c .before .before .before .before .before .before .before .check-record .ensures) ∙ c .before .before .before .before .before .checked1 .given .1), good-sound _ (args .j) (c .before .checked2 .given .0 .0) (sym (c .before .before .before .check-record2 .ensures) ∙ c .before .checked2 .given .1))
+place-requires : tie.Need-place-requires
+place-requires c κs =
+    let by-checked2 = c .before in
+    let by-check-record2 = by-checked2 .before .before in
+    let by-checked1 = by-check-record2 .before .before in
+    let by-check-record = by-checked1 .before .before in
+    let entry = by-check-record .before .before .before in
+    let args = entry .args in
+    ((good-sound _ (args .i) (by-checked1 .checked1 .given .0 .0) (sym (by-check-record .check-record .ensures) ∙ by-checked1 .checked1 .given .1)) .fixed, (good-sound _ (args .j) (by-checked2 .checked2 .given .0 .0) (sym (by-check-record2 .check-record2 .ensures) ∙ by-checked2 .checked2 .given .1)) .fixed)
 
-enum-known-judged : tie.Need-enum-known-judged
-enum-known-judged c = search needs
+enum-known-at : tie.Need-enum-known-at
+enum-known-at c = search needs
 
 enum-told-3 : tie.Need-enum-told-3
 enum-told-3 c = search needs
 
-enum-told-4 : tie.Need-enum-told-4
-enum-told-4 c = search needs
-
 returns-3 : tie.Need-returns-3
 returns-3 c =
-    let args = c .before .before .before .before .before .before .before .before .before .before .before .before .before .before .args in
-    both-judged (now (args .first)) (now (args .second)) (args .i) (args .j) (c .before .before .before .before .before .before .before .before .before .checked1 .given .0 .0) (sym (c .before .before .before .before .before .before .before .before .before .before .before .check-record .ensures) ∙ c .before .before .before .before .before .before .before .before .before .checked1 .given .1) (c .before .before .before .before .before .checked2 .given .0 .0) (c .before .before .before .judge .result) _ (sym (c .before .before .before .before .before .before .before .check-record2 .ensures) ∙ c .before .before .before .before .before .checked2 .given .1) (c .before .before .before .judge .ensures) (c .before .judged .given .1)
+    let by-place = c .before .before in
+    let by-checked2 = by-place .before .before in
+    let by-check-record2 = by-checked2 .before .before in
+    let by-checked1 = by-check-record2 .before .before in
+    let by-check-record = by-checked1 .before .before in
+    let entry = by-check-record .before .before .before in
+    let args = entry .args in
+    both-placed (now (args .first)) (now (args .second)) (args .i) (args .j) (by-checked1 .checked1 .given .0 .0) (sym (by-check-record .check-record .ensures) ∙ by-checked1 .checked1 .given .1) (by-checked2 .checked2 .given .0 .0) (by-place .place .result) _ (sym (by-check-record2 .check-record2 .ensures) ∙ by-checked2 .checked2 .given .1) (by-place .place .ensures) (c .enum-told3 .given .1)
+
+spans-of-requires : tie.Need-spans-of-requires
+spans-of-requires c κs =
+    let by-checked2 = c .before .before .before .before .before in
+    let by-check-record2 = by-checked2 .before .before in
+    let by-checked1 = by-check-record2 .before .before in
+    let by-check-record = by-checked1 .before .before in
+    let entry = by-check-record .before .before .before in
+    let args = entry .args in
+    (good-sound _ (args .i) (by-checked1 .checked1 .given .0 .0) (sym (by-check-record .check-record .ensures) ∙ by-checked1 .checked1 .given .1), good-sound _ (args .j) (by-checked2 .checked2 .given .0 .0) (sym (by-check-record2 .check-record2 .ensures) ∙ by-checked2 .checked2 .given .1))
 
 returns-4 : tie.Need-returns-4
 returns-4 c =
-    let args = c .before .before .before .before .before .before .before .before .before .before .before .before .before .args in
-    both-judged (now (args .first)) (now (args .second)) (args .i) (args .j) (c .before .before .before .before .before .before .before .before .checked1 .given .0 .0) (sym (c .before .before .before .before .before .before .before .before .before .before .check-record .ensures) ∙ c .before .before .before .before .before .before .before .before .checked1 .given .1) (c .before .before .before .before .checked2 .given .0 .0) (c .before .before .judge .result) _ (sym (c .before .before .before .before .before .before .check-record2 .ensures) ∙ c .before .before .before .before .checked2 .given .1) (c .before .before .judge .ensures) (c .enum-told3 .given .1)
-
-returns-5 : tie.Need-returns-5
-returns-5 c =
-    let args = c .before .before .before .before .before .before .before .before .before .before .before .before .before .args in
-    both-judged (now (args .first)) (now (args .second)) (args .i) (args .j) (c .before .before .before .before .before .before .before .before .checked1 .given .0 .0) (sym (c .before .before .before .before .before .before .before .before .before .before .check-record .ensures) ∙ c .before .before .before .before .before .before .before .before .checked1 .given .1) (c .before .before .before .before .checked2 .given .0 .0) (c .before .before .judge .result) _ (sym (c .before .before .before .before .before .before .check-record2 .ensures) ∙ c .before .before .before .before .checked2 .given .1) (c .before .before .judge .ensures) (c .enum-told4 .given .1)
+    let by-at = c .before .before in
+    let by-place = by-at .before .before in
+    let by-checked2 = by-place .before .before in
+    let by-check-record2 = by-checked2 .before .before in
+    let by-checked1 = by-check-record2 .before .before in
+    let by-check-record = by-checked1 .before .before in
+    let entry = by-check-record .before .before .before in
+    let args = entry .args in
+    c .spans-of .ensures ∙ both-placed (now (args .first)) (now (args .second)) (args .i) (args .j) (by-checked1 .checked1 .given .0 .0) (sym (by-check-record .check-record .ensures) ∙ by-checked1 .checked1 .given .1) (by-checked2 .checked2 .given .0 .0) (by-place .place .result) _ (sym (by-check-record2 .check-record2 .ensures) ∙ by-checked2 .checked2 .given .1) (by-place .place .ensures) (by-at .at .given .1)
 
 pub judge-pair-spec : {M : Type 1} → statement M
 judge-pair-spec =
@@ -85,10 +112,9 @@ judge-pair-spec =
     enum-told-2
     unchecked-requires-2
     returns-2
-    judge-requires
-    enum-known-judged
+    place-requires
+    enum-known-at
     enum-told-3
-    enum-told-4
     returns-3
-    returns-4
-    returns-5)
+    spans-of-requires
+    returns-4)
