@@ -1,9 +1,13 @@
 /*
- * overlap.h: the overlap-consensus step on a pair of BAM records.
+ * overlap.h: the overlap-consensus step on a pair of BAM records, and on a filed group of them.
  *
  * overlap_call takes the two records of a read pair. At each reference position where both have
  * a base it compares the two, writes the bases and qualities that the strategies give into both
  * records, in place, and counts what it did.
+ *
+ * overlap_filed_call does the same for every pair of a filed group: framed records and a trailer that
+ * says whether they were corrected. Given a group that was, it says so and writes nothing, so a job that
+ * is sent again does no harm. overlap_trailer_call makes the trailer of a group that is to be filed.
  *
  * Link with liboverlap_c.a (`rt staticlib overlap_c` writes target/staticlib/liboverlap_c.a).
  */
@@ -95,6 +99,77 @@ uint32_t overlap_call(uint8_t *first, size_t first_len,
                       uint8_t *second, size_t second_len,
                       uint32_t agreement, uint32_t disagreement,
                       uint8_t *counts, size_t counts_len);
+
+/*
+ * A filed group: frames end to end, each a 32-bit size and then a record of that many bytes, at most
+ * 256 of them; and then the trailer, 50 bytes, with the least byte of each number first:
+ *
+ *   offset  bytes
+ *    0      4     zero, where a size would stand
+ *    4      1     state: 0 raw, 1 corrected
+ *    5      1     strategies: 3 * agreement + disagreement
+ *    6      4     how many records there are
+ *   10      32    growth of the four counts when the group was corrected; 0 while it is raw
+ *   42      8     how many bytes the frames take: the way from the trailer back to the first of them
+ *
+ * Arguments
+ *
+ *   filed    A filed group. It is only read.
+ *   out      Where the corrected group goes: as many bytes as filed has, front to back, trailer last.
+ *   counts   32 bytes, as for overlap_call.
+ *
+ * Mates are found by name: a record with flag 64 is a first, else one with flag 128 a last, and none
+ * with flag 256 or 2048; of two with one name and place the later one counts.
+ *
+ * Answer
+ *
+ *   0      corrected: out holds the corrected filed group. Of its trailer the state is 1 now, and the
+ *          growth is what this call added to the counts. The records may be used.
+ *   1      already done: filed was corrected before. Nothing is written; its trailer has the growth.
+ *   other  refused: 1000 + 100 * place + number. The place is the index of the record at fault, from 0
+ *          on, and 0 where no record is; 9, 15, 19, 20 and 21 name none. The numbers 1 to 9 and 15 are
+ *          those of overlap_call; and
+ *
+ *          number  when
+ *          11      the size of a record is cut off, or reaches past the end of filed
+ *          12      after 256 records there are bytes other than four zero bytes (place 256: 26612)
+ *          19      out is shorter than filed
+ *          20      no four zero bytes end the frames, or not exactly 50 bytes stand from them on
+ *          21      the trailer's state is above 1, its strategies above 8, its number of records or of
+ *                  bytes isn't that of the frames, or it is raw and a growth isn't 0
+ *
+ * Order of judgement: 15; 9; the frames from front to back, at each place four zero bytes first, then
+ * 12, 11 and 1 to 4; 20; 21; for a corrected group that is all; the pairs of a raw one in order of the
+ * first's index, each with 5 to 8; 19.
+ *
+ * What is written: for 0, filed_len bytes of out and the counts. For any other answer nothing.
+ *
+ * A torn output. Of the filed_len bytes that answer 0 writes, no proper front is taken for a filed
+ * group: this call refuses it. All of them it answers with 1. That is proved for every input. It speaks
+ * of the bytes that were written: store them in a new file, and not over an old one whose end may
+ * stay behind them. What no trailer can tell: corrected records under a new raw trailer are raw to
+ * anyone who reads them.
+ *
+ * Memory: as for overlap_call, but that filed is only read. The three must not overlap.
+ */
+uint32_t overlap_filed_call(const uint8_t *filed, size_t filed_len,
+                            uint8_t *out, size_t out_len,
+                            uint8_t *counts, size_t counts_len);
+
+/*
+ * Makes the raw trailer of a group, for a correction by the strategies of these numbers. Put it behind
+ * the frames, and they are a filed group that overlap_filed_call refuses neither with 11 or 12 nor with
+ * 20 or 21.
+ *
+ *   frames    Framed records, as above, without a trailer. They are only read.
+ *   trailer   At least 50 bytes. The first 50 are written, the others stay.
+ *
+ * Answer: 0 made; else 1000 + 100 * place + number, and nothing is written: 10 a strategy number is not
+ * 0, 1 or 2; then the frames' 12, 11 and 1 to 4, place as above; then 19, trailer_len is under 50.
+ */
+uint32_t overlap_trailer_call(const uint8_t *frames, size_t frames_len,
+                              uint32_t agreement, uint32_t disagreement,
+                              uint8_t *trailer, size_t trailer_len);
 
 #ifdef __cplusplus
 }

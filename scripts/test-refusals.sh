@@ -1,11 +1,12 @@
 #!/bin/sh
-# Runs every box of docs/REFUSALS.md and compares: pairs through the exported call, inputs
-# through the program.
+# Runs every box of docs/REFUSALS.md and compares: pairs and filed groups through the exported
+# calls, inputs through the programs.
 #   scripts/test-refusals.sh [PAGE]
 set -eu
 . "$(dirname "$0")/settings.sh"
 need_archive
 need_program
+need_program_filed
 page=${1:-$root/docs/REFUSALS.md}
 try=$root/target/hosts/try
 compile_c "$root/hosts/c/try.c" "$try"
@@ -18,37 +19,59 @@ verdict() { # EXPECTED GOT
     bad=$((bad + 1))
     printf 'in the box under "%s"\n expected: %s\n got:      %s\n' "$title" "$1" "$2"
 }
-start() { ways='' input='' first='' second='' answer='' first_after='' second_after='' counts_after=''; }
+start() {
+    kind='' ways='' out_len='' counts='' first='' second='' group='' input='' answer='' output=''
+    first_after='' second_after='' out_after='' counts_after=''
+}
+run_pair() {
+    want="answer $answer "
+    [ -z "$first_after" ] || want="${want}first $(plain "$first_after") second $(plain "$second_after") counts $(plain "$counts_after") "
+    verdict "$want" "$("$try" pair $ways "$counts" "$first" "$second" | tr '\n' ' ')"
+}
+run_filed() { # of a corrected group, the box may leave out what becomes of the output and of the counts
+    want="answer $answer " dropped=
+    [ -z "$out_after" ] || want="${want}out $(plain "$out_after") "
+    [ -z "$counts_after" ] || want="${want}counts $(plain "$counts_after") "
+    [ -n "$out_after" ] || [ "$answer" != 0 ] || dropped="-e /^out/d"
+    [ -n "$counts_after" ] || [ "$answer" != 0 ] || dropped="$dropped -e /^counts/d"
+    verdict "$want" "$("$try" filed "$out_len" "$counts" "$group" | sed -e '' $dropped | tr '\n' ' ')"
+}
+run_program() { # PROGRAM
+    verdict "$output" "$("$try" bytes "$input" | "$1" | tr -d '\0' | LC_ALL=C head -n 1)"
+    case $output in no* | done*) # that line and nothing more
+        verdict $((${#output} + 1)) $(($("$try" bytes "$input" | "$1" | wc -c))) ;;
+    esac
+}
 finish() { # the box is read: run it
-    if [ -n "$ways" ]; then
-        got=$("$try" pair $ways "$counts" "$first" "$second" | tr '\n' ' ')
-        want="answer $answer "
-        [ -z "$first_after" ] || want="${want}first $(plain "$first_after") second $(plain "$second_after") counts $(plain "$counts_after") "
-        verdict "$want" "$got"
-    elif [ -n "$input" ]; then
-        got=$("$try" bytes "$input" | "$PROGRAM" | tr -d '\0' | LC_ALL=C head -n 1)
-        verdict "$output" "$got"
-        # a refusal is that line and nothing more
-        case $output in no*) verdict $((${#output} + 1)) $(($("$try" bytes "$input" | "$PROGRAM" | wc -c))) ;; esac
-    else
+    case $kind in
+    pair) run_pair ;;
+    filed) run_filed ;;
+    program) run_program "$PROGRAM" ;;
+    program-filed) run_program "$PROGRAM_FILED" ;;
+    *)
         left=$((left + 1))
         echo "run by the program judged_cases, as nothing exported gives it: $title"
-    fi
+        ;;
+    esac
 }
 
-inside=no title='' output=''
+inside=no title=''
 start
 while IFS= read -r line; do
     case $inside,$line in
     no,'### '*) title=${line#'### '} ;;
     no,'```case') inside=yes; start ;;
     yes,'```') inside=no; finish ;;
-    yes,'pair '*) counts=${line#*counts }; ways=${line#pair }; ways=${ways%% counts*} ;;
-    yes,'program '*) input=${line#program } ;;
+    yes,'pair '*) kind=pair; counts=${line#*counts }; ways=${line#pair }; ways=${ways%% counts*} ;;
+    yes,'filed '*) kind=filed; counts=${line#*counts }; out_len=${line#filed }; out_len=${out_len%% counts*} ;;
+    yes,'group '*) group=${line#group } ;;
+    yes,'program '*) kind=program; input=${line#program } ;;
+    yes,'program-filed '*) kind=program-filed; input=${line#program-filed } ;;
     yes,'output '*) output=${line#output } ;;
     yes,'answer '*) answer=${line#answer } ;;
     yes,'first becomes '*) first_after=${line#first becomes } ;;
     yes,'second becomes '*) second_after=${line#second becomes } ;;
+    yes,'out becomes '*) out_after=${line#out becomes } ;;
     yes,'counts become '*) counts_after=${line#counts become } ;;
     yes,'first '*) first=${line#first } ;;
     yes,'second '*) second=${line#second } ;;

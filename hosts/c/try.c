@@ -1,10 +1,14 @@
 /* try.c: tries one input that is written in hexadecimal.
  *
  *   try pair AGREEMENT DISAGREEMENT COUNTS FIRST SECOND    calls the step on a pair
+ *   try filed OUT_LEN COUNTS FILED                         calls it on a filed group
+ *   try trailer AGREEMENT DISAGREEMENT FRAMES              writes the raw trailer of framed records
  *   try bytes TEXT                                         writes the bytes, as input for a program
  *
  * Two digits make a byte and blanks don't count; 00*32 is 32 such bytes, (2A 00*3)*2 is a part
- * taken twice. `pair` prints the answer and, where a byte changed, both records and the counts.
+ * taken twice. `pair` prints the answer and, where a byte changed, both records and the counts;
+ * `filed` the answer and, where a byte changed, the output, which begins as OUT_LEN zero bytes, and
+ * the counts.
  */
 #include "overlap.h"
 #include <ctype.h>
@@ -64,20 +68,58 @@ static void print(const char *what, const Bytes *b) {
     printf("\n");
 }
 
-int main(int argc, char **argv) {
-    if (argc == 3 && strcmp(argv[1], "bytes") == 0) {
-        Bytes *all = bytes(argv[2]);
-        return fwrite(all->at, 1, all->len, stdout) == all->len ? 0 : 1;
-    }
-    if (argc != 7 || strcmp(argv[1], "pair") != 0) fail("pair AGREEMENT DISAGREEMENT COUNTS FIRST SECOND, or bytes TEXT");
+/* A number in decimal; one that doesn't fit 32 bits is no strategy, and stays none. */
+static uint32_t number(const char *text) {
+    unsigned long n = strtoul(text, NULL, 10);
+    return n > UINT32_MAX ? UINT32_MAX : (uint32_t)n;
+}
+
+static int same(const Bytes *a, const Bytes *b) {
+    return memcmp(a, b, sizeof *a) == 0;
+}
+
+static int try_pair(char **args) {
     Bytes *after[3], *before[3];
-    int same = 1;
-    for (int i = 0; i < 3; i++) after[i] = bytes(argv[4 + i]), before[i] = bytes(argv[4 + i]);
+    int unchanged = 1;
+    for (int i = 0; i < 3; i++) after[i] = bytes(args[2 + i]), before[i] = bytes(args[2 + i]);
     uint32_t answer = overlap_call(after[1]->at, after[1]->len, after[2]->at, after[2]->len,
-                                   (uint32_t)strtoul(argv[2], NULL, 10), (uint32_t)strtoul(argv[3], NULL, 10),
-                                   after[0]->at, after[0]->len);
-    for (int i = 0; i < 3; i++) same &= memcmp(before[i], after[i], sizeof *before[i]) == 0;
+                                   number(args[0]), number(args[1]), after[0]->at, after[0]->len);
+    for (int i = 0; i < 3; i++) unchanged &= same(before[i], after[i]);
     printf("answer %u\n", answer);
-    if (!same) print("first", after[1]), print("second", after[2]), print("counts", after[0]);
+    if (!unchanged) print("first", after[1]), print("second", after[2]), print("counts", after[0]);
     return 0;
+}
+
+static int try_filed(char **args) {
+    Bytes *out = bytes(""), *out_before = bytes(""), *counts = bytes(args[1]), *filed = bytes(args[2]);
+    out->len = out_before->len = number(args[0]);
+    if (out->len > ROOM) fail("too long");
+    uint32_t answer = overlap_filed_call(filed->at, filed->len, out->at, out->len, counts->at, counts->len);
+    printf("answer %u\n", answer);
+    if (!same(filed, bytes(args[2]))) fail("the filed group itself was changed");
+    if (!same(out, out_before) || !same(counts, bytes(args[1]))) print("out", out), print("counts", counts);
+    return 0;
+}
+
+static int try_trailer(char **args) {
+    uint8_t trailer[50];
+    Bytes *frames = bytes(args[2]);
+    uint32_t answer = overlap_trailer_call(frames->at, frames->len, number(args[0]), number(args[1]), trailer, sizeof trailer);
+    if (answer == 0) return fwrite(trailer, 1, sizeof trailer, stdout) == sizeof trailer ? 0 : 1;
+    fprintf(stderr, "try: refused with answer %u\n", answer);
+    return 1;
+}
+
+static int try_bytes(char **args) {
+    Bytes *all = bytes(args[0]);
+    return fwrite(all->at, 1, all->len, stdout) == all->len ? 0 : 1;
+}
+
+int main(int argc, char **argv) {
+    static const struct { const char *name; int args, (*run)(char **); } COMMANDS[] = {
+        { "pair", 5, try_pair }, { "filed", 3, try_filed }, { "trailer", 3, try_trailer }, { "bytes", 1, try_bytes } };
+    for (size_t i = 0; i < sizeof COMMANDS / sizeof COMMANDS[0]; i++)
+        if (argc == 2 + COMMANDS[i].args && strcmp(argv[1], COMMANDS[i].name) == 0) return COMMANDS[i].run(argv + 2);
+    fail("pair AGREEMENT DISAGREEMENT COUNTS FIRST SECOND, filed OUT_LEN COUNTS FILED, trailer AGREEMENT DISAGREEMENT FRAMES, or bytes TEXT");
+    return 2;
 }

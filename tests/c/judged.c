@@ -6,11 +6,11 @@
 #include "overlap.h"
 
 #include <inttypes.h>
-#include <stdarg.h>
 #include <stdio.h>
 #include <stdlib.h>
 #include <string.h>
 
+#include "checks.h"
 #include "examples.h"
 
 /* ---- Records ---- */
@@ -31,22 +31,6 @@ struct record {
     size_t len;
     uint8_t bytes[LONGEST + 64];
 };
-
-/* Stores a number in `width` bytes, least byte first. */
-static void put(uint8_t *at, int width, uint64_t number)
-{
-    for (int i = 0; i < width; i++)
-        at[i] = (uint8_t)(number >> (8 * i));
-}
-
-/* The number that eight bytes hold, least byte first. */
-static uint64_t number_at(const uint8_t *at)
-{
-    uint64_t number = 0;
-    for (int i = 7; i >= 0; i--)
-        number = number << 8 | at[i];
-    return number;
-}
 
 static void set(struct record *r, int field, int width, uint64_t number)
 {
@@ -120,42 +104,7 @@ static void build_plain(struct record *r, int32_t pos, const char *operations, u
     finish(r, lay_operations(r, operations), codes, quals, count);
 }
 
-/* ---- Checks ---- */
-
-static unsigned passed, failed;
-
-static void check(int holds, const char *format, ...)
-{
-    if (holds) {
-        passed++;
-        return;
-    }
-    failed++;
-    va_list args;
-    va_start(args, format);
-    vprintf(format, args);
-    va_end(args);
-    putchar('\n');
-}
-
-/* A text that says what is checked. The next call of text overwrites it. */
-static const char *text(const char *format, ...)
-{
-    static char room[200];
-    va_list args;
-    va_start(args, format);
-    vsnprintf(room, sizeof room, format, args);
-    va_end(args);
-    return room;
-}
-
-static void check_bytes(const char *what, const char *where, const uint8_t *expected, const uint8_t *got, size_t n)
-{
-    size_t i = 0;
-    while (i < n && expected[i] == got[i])
-        i++;
-    check(i == n, "%s: %s, byte %zu: expected %u, got %u", what, where, i, i < n ? expected[i] : 0u, i < n ? got[i] : 0u);
-}
+/* ---- Calls ---- */
 
 /* What a call is given, and the same after it. The bytes behind the 32 of the counts are watched too. */
 struct call {
@@ -201,7 +150,7 @@ static void expect_after(const char *what, const struct record *first, const str
     uint8_t expected[sizeof given.counts];
     memcpy(expected, given.counts, sizeof expected);
     for (int i = 0; i < 4; i++)
-        put(expected + 8 * i, 8, number_at(expected + 8 * i) + growth[i]);
+        put(expected + 8 * i, 8, number_at(expected + 8 * i, 8) + growth[i]);
     check_bytes(what, "first record", first->bytes, after.first.bytes, sizeof first->bytes);
     check_bytes(what, "second record", second->bytes, after.second.bytes, sizeof second->bytes);
     check_bytes(what, "counts", expected, after.counts, sizeof expected);

@@ -122,7 +122,7 @@ module _ (w : Strategies) (s₀ : List ℕ) (n : ℕ) (fit : beginOf s₀ n ≤ 
   written-size (e ∷ l) s h o = written-size l (stepped w s₀ s e) (next-size e l s h o) (once-rest n e l o)
 
   -- a record in no pair stays
-  written-other : (l : List (ℕ × ℕ)) (s : List ℕ) → length s ≡ length s₀ → Once n l → (j : ℕ) → times l j ≡ 0
+  pub written-other : (l : List (ℕ × ℕ)) (s : List ℕ) → length s ≡ length s₀ → Once n l → (j : ℕ) → times l j ≡ 0
       → part (written w s₀ l s) (startOf s₀ j) (endOf s₀ j) ≡ part s (startOf s₀ j) (endOf s₀ j)
   unfolding written times
   written-other [] s h o j z = refl

@@ -32,7 +32,7 @@ fn overlap_of(a: Answer) -> usize
 }
 
 // Copies bytes to a part of the same length.
-fn copy(to: &mut [u8], from: &[u8])
+pub fn copy(to: &mut [u8], from: &[u8])
     requires { ⌜ length (now to) ≡ length (now from) ⌝ }
     ensures { λ _. ⌜ now (to .exit) ≡ now (from .entry) ⌝ }
 {

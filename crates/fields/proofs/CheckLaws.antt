@@ -61,7 +61,8 @@ good-any-place s p y e q =
     let t = passes s p y e in
     simp (t .short, t .long, t .operations, t .qualities, t .layout)
 
-le-take : (w n : ℕ) (s : List ℕ) (at : ℕ) → at + w ≤ n → unsigned w (take n s) at ≡ unsigned w s at
+-- a front of a list holds the numbers that lie in it
+pub le-take : (w n : ℕ) (s : List ℕ) (at : ℕ) → at + w ≤ n → unsigned w (take n s) at ≡ unsigned w s at
 le-take w n s at h = le-same w (take n s) s at (λ k l u. getD-take n s k 0 (omega arith))
 
 header-take : (s : List ℕ) → header (take 32 s) ≡ header s

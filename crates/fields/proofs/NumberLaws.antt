@@ -1,11 +1,11 @@
 -- Laws of numbers of several bytes, each proved once over the width: what is read, and what is stored. Assumes nothing.
 use mathlib.Core.Path.{_≡_, refl, _∙_}
-use mathlib.Core.List.{List}
+use mathlib.Core.List.{List, _++_}
 use Prim.Native.Nat.{ℕ, zero, suc, _+_, _*_, _^_, _<_, _≤_, _-_, _%_, _/_}
 use native.Mathlib.Nat.{add-zero, zero-add, suc-add, mul-assoc, pow-succ', pow-zero}
 use native.Mathlib.Omega.{arith}
 use lib.ListN.{getD, set, length, length-set}
-use lib.Seq.{getD-set-other, getD-set-same}
+use lib.Seq.{getD-set-other, getD-set-same, getD-append-add}
 use Rattle.fields.specs.Number.{unsigned, put}
 
 -- v + w bytes hold what the first v bytes hold, and above it what the next w bytes hold
@@ -28,6 +28,14 @@ unfolding unsigned
 le-same zero a b at h = refl
 le-same (suc w) a b at h =
     rw (h at (omega arith) (omega arith), le-same w a b (at + 1) (λ k l u. h k (omega arith) (omega arith)))
+
+-- a number that stands behind other bytes is read there
+pub le-behind : (w : ℕ) (s t : List ℕ) (at : ℕ) → unsigned w (s ++ t) (length s + at) ≡ unsigned w t at
+unfolding unsigned
+le-behind zero s t at = refl
+le-behind (suc w) s t at =
+    let a : length s + at + 1 ≡ length s + (at + 1) = omega arith in
+    rw (a, getD-append-add s t at 0, le-behind w s t (at + 1))
 
 -- one byte of a store, the i-th of n
 pub put-step : (n i : ℕ) (d : List ℕ) (at x : ℕ) → i < n → put (n - i) d (at + i) x ≡ put (n - (i + 1)) (set d (at + i) (x % 256)) (at + (i + 1)) (x / 256)

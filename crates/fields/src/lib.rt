@@ -61,16 +61,32 @@ pub fn i32_at(s: &[u8], at: usize) -> i32
     -1 - k
 }
 
+// Stores the low bytes of a number, as many as `width` says, from `at` on, least byte first.
+fn put_bytes(d: &mut [u8], at: usize, width: usize, v: u64)
+    requires { ⌜ at + width ≤ length (now d) ⌝ }
+    ensures { λ _. ⌜ now (d .exit) ≡ put width (now (d .entry)) at v ⌝ }
+{
+    let mut rest = v;
+    for i in 0..width {
+        d[at + i] = (rest % 256) as u8;
+        rest = rest / 256;
+    }
+}
+
+// Stores a number in the four bytes from `at` on, least byte first. All other bytes stay.
+pub fn put_u32(d: &mut [u8], at: usize, v: u32)
+    requires { ⌜ at + 4 ≤ length (now d) ⌝ }
+    ensures { λ _. ⌜ now (d .exit) ≡ put 4 (now (d .entry)) at v ⌝ }
+{
+    put_bytes(d, at, 4, v as u64);
+}
+
 // Stores a number in the eight bytes from `at` on, least byte first. All other bytes stay.
 pub fn put_u64(d: &mut [u8], at: usize, v: u64)
     requires { ⌜ at + 8 ≤ length (now d) ⌝ }
     ensures { λ _. ⌜ now (d .exit) ≡ put 8 (now (d .entry)) at v ⌝ }
 {
-    let mut rest = v;
-    for i in 0..8 {
-        d[at + i] = (rest % 256) as u8;
-        rest = rest / 256;
-    }
+    put_bytes(d, at, 8, v);
 }
 
 // The flags of a record, each a bit of one number. The constants are the weights of the bits.

@@ -78,19 +78,39 @@ pub record Going (s begins : List ℕ) (k p : ℕ) : Type 0 where
   pub left : framesFrom s (256 - k) k ≡ framesOf s
   pub placed : Placed s begins k
 
+pub placed-start : (s begins : List ℕ) → 257 ≤ length begins → Placed s (set begins 0 0) 0
+unfolding beginOf
+placed-start s begins h = record {
+  few = omega arith;
+  wide = rw length-set h;
+  places = λ k l. let e : k ≡ 0 = omega arith in rw e (getD-set-same begins 0 0 0 (omega arith));
+  fit = omega arith;
+  sound = below-none _;
+}
+
 pub going-start : (s begins : List ℕ) → 257 ≤ length begins → Going s (set begins 0 0) 0 0
 unfolding beginOf
-going-start s begins h = record {
-  here = refl;
-  left = refl;
-  placed = record {
-    few = omega arith;
-    wide = rw length-set h;
-    places = λ k l. let e : k ≡ 0 = omega arith in rw e (getD-set-same begins 0 0 0 (omega arith));
-    fit = omega arith;
-    sound = below-none _;
-  };
-}
+going-start s begins h = record { here = refl; left = refl; placed = placed-start s begins h }
+
+-- one frame more in the table: it ends where the next begins
+pub placed-next : (s begins : List ℕ) (k : ℕ) → Placed s begins k → k < 256 → (q : ℕ) → frameOf s (beginOf s k) k ≡ To q
+    → (q ≡ beginOf s (k + 1)) × Placed s (set begins (k + 1) q) (k + 1)
+unfolding startOf endOf beginOf
+placed-next s begins k t room q h =
+    let d = to-framed s (beginOf s k) k q h in
+    let n : q ≡ beginOf s (k + 1) = d .end ∙ ap (beginOf s) (sym (add-one k)) in
+    let o = good-sound (recordOf s k) k (d .layout) (d .good) in (
+      n,
+      record {
+        few = omega arith;
+        wide = rw length-set (t .wide);
+        places = below-more _ (k + 1)
+            (λ j l. getD-set-other begins (k + 1) j q 0 (λ w. lt-irrefl (k + 1) (rw w at l)) ∙ t .places j l)
+            (getD-set-same begins (k + 1) q 0 (omega (arith, t .wide)) ∙ n);
+        fit = omega (arith, n, d .end, d .inside);
+        sound = below-more _ k (t .sound) (rw (o .layout) at o);
+      },
+    )
 
 pub frames-none : (s : List ℕ) (m k : ℕ) → length s ≤ beginOf s k → framesFrom s m k ≡ Whole k
 unfolding framesFrom
@@ -126,24 +146,12 @@ module _ (s begins : List ℕ) (k p : ℕ) (g : Going s begins k p) where
     said-refused r h = ap (λ (z : Frame). onFrame z (framesFrom s m (suc k))) (sym h) ∙ turn
 
     pub going-next : (q : ℕ) → f′ ≡ To q → Going s (set begins (k + 1) q) (k + 1) q
-    unfolding startOf endOf beginOf
     going-next q h =
-        let t = g .placed in
-        let d = to-framed s (beginOf s k) k q (sym (ap (λ (z : ℕ). frameOf s z k) (g .here)) ∙ sym e ∙ e′ ∙ h) in
-        let n : q ≡ beginOf s (k + 1) = d .end ∙ ap (beginOf s) (sym (add-one k)) in
-        let o = good-sound (recordOf s k) k (d .layout) (d .good) in
+        let d = placed-next s begins k (g .placed) room q (sym (ap (λ (z : ℕ). frameOf s z k) (g .here)) ∙ sym e ∙ e′ ∙ h) in
         record {
-          here = n;
+          here = d .0;
           left = ap (framesFrom s m) (add-one k) ∙ ap (λ (z : Frame). onFrame z (framesFrom s m (suc k))) (sym h) ∙ turn;
-          placed = record {
-            few = omega arith;
-            wide = rw length-set (t .wide);
-            places = below-more _ (k + 1)
-                (λ j l. getD-set-other begins (k + 1) j q 0 (λ w. lt-irrefl (k + 1) (rw w at l)) ∙ t .places j l)
-                (getD-set-same begins (k + 1) q 0 (omega (arith, t .wide)) ∙ n);
-            fit = omega (arith, n, d .end, d .inside);
-            sound = below-more _ k (t .sound) (rw (o .layout) at o);
-          };
+          placed = d .1;
         }
 
   module _ (full : 256 ≤ k) where

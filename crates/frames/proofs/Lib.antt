@@ -1,3 +1,4 @@
 pub mod PartLaws
 pub mod PlaceLaws
 pub mod FrameLaws
+pub mod CleanLaws

@@ -23,7 +23,7 @@ pub enum Framing {
 }
 
 // The frame of record k, which begins at a byte of the group.
-fn frame_at(s: &[u8], begin: usize, k: usize) -> Frame
+pub fn frame_at(s: &[u8], begin: usize, k: usize) -> Frame
     requires { ⌜ (begin < length (now s)) × (k < 256) ⌝ }
     ensures { λ r. ⌜ r ≡ frameOf (now (s .entry)) begin k ⌝ }
 {

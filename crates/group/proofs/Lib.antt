@@ -1,3 +1,4 @@
 pub mod GroupLaws
 pub mod PromiseLaws
 pub mod ByteLaws
+pub mod KeptLaws

@@ -5,15 +5,15 @@ use mathlib.Core.List.{List, [], _∷_}
 use mathlib.Core.Bool.{Bool, true, false, cond}
 use mathlib.Core.Logic.{_⊎_, inl, inr, ⊎-elim}
 use native.Mathlib.Omega.{arith}
-use borrow.Author.Tests.{eqb-true, ltb-false}
-use lib.Dec.{eqb, ltb}
-use lib.ListN.{length, getD, take, drop}
+use borrow.Author.Tests.{eqb-true}
+use lib.Dec.{eqb}
+use lib.ListN.{length, getD, drop}
 use lib.Seq.{ext-getD, getD-take, getD-drop}
 use Rattle.fields.proofs.Arith.{lt-or-le}
 use Rattle.refusal.specs.declared.Refusal.{Refusal}
 use Rattle.refusal.specs.declared.Refusal.the-variants as Why
 use Rattle.stats.specs.declared.CorrectionStats.{CorrectionStats}
-use Rattle.stats.specs.Counts.{zeroed, plus, full}
+use Rattle.stats.specs.Counts.{plus, full}
 use Rattle.stats.proofs.CountLaws.{plus-assoc, plus-zero}
 use Rattle.strategy.specs.declared.Strategies.{Strategies}
 use Rattle.strategy.specs.declared.Numbered.{Numbered}
@@ -21,18 +21,15 @@ use Rattle.strategy.specs.declared.Numbered.the-variants as Numbers
 use Rattle.strategy.specs.Number.{numberedOf}
 use Rattle.pair.specs.declared.Answer.{Answer}
 use Rattle.pair.specs.declared.Answer.the-variants as Answers
-use Rattle.pair.specs.Pair.{Outcome}
 use Rattle.frames.specs.Part.{part}
-use Rattle.frames.specs.declared.Frame.{Frame}
-use Rattle.frames.specs.declared.Frame.the-variants as Frames
 use Rattle.frames.specs.declared.Framing.{Framing}
 use Rattle.frames.specs.declared.Framing.the-variants.{Whole, Broken}
-use Rattle.frames.specs.Frame.{frameEnd, beginOf, startOf, endOf, frameOf, onFrame, framesFrom, framesOf}
-use Rattle.frames.proofs.FrameLaws.{to-framed}
+use Rattle.frames.specs.Frame.{beginOf, startOf, endOf, framesOf}
+use Rattle.frames.proofs.CleanLaws.{whole-clean}
 use Rattle.mates.specs.Register.{matesOf, mateCons, pairsFrom, pairsOf}
 use Rattle.fields.specs.Among.{Among}
 use Rattle.fields.proofs.AmongLaws.{here, later, among-cons, among-none}
-use Rattle.mates.specs.Promise.{Mates, one, times, Once}
+use Rattle.mates.specs.Promise.{Mates, one, times}
 use Rattle.mates.proofs.OnceLaws.{pairs-once}
 use Rattle.mates.proofs.MateLaws.{Made, mate-mates, mates-mate, among-mates, mates-among}
 use Rattle.verdicts.specs.declared.Verdict.{Verdict}
@@ -60,27 +57,6 @@ times-among (e ∷ l) k h = go (times-among l k) (eqb (e .0) k) refl (eqb (e .1)
     go up true a v b q = inl (e .1, rw (sym (eqb-true (e .0) k a)) (here e l))
     go up false a true b q = inr (e .0, rw (sym (eqb-true (e .1) k b)) (here e l))
     go up false a false b q = ⊎-elim (λ y. inl (y .0, later e l _ _ (y .1))) (λ y. inr (y .0, later e l _ _ (y .1))) (up (omega arith))
-
--- ---- the frames of a whole group lie in it
-no-frame : (n : ℕ) (r : Refusal) → Broken r ≡ Whole n → ⊥
-no-frame n r e = let z : _≡_ {A = ℕ} 0 1 = cc in omega arith
-
-whole-fit : (s : List ℕ) (n m k : ℕ) → beginOf s k ≤ length s → framesFrom s m k ≡ Whole n → beginOf s n ≤ length s
-unfolding framesFrom beginOf
-whole-fit s n zero k h e = go (ltb (beginOf s k) (length s)) e
-  where
-    go : (t : Bool) → cond t (Broken Why.TooManyRecords) (Whole k) ≡ Whole n → beginOf s n ≤ length s
-    go true f = absurd (no-frame n Why.TooManyRecords f)
-    go false f = let z : k ≡ n = cc in rw z at h
-whole-fit s n (suc m) k h e = go (whole-fit s n m (suc k)) (ltb (beginOf s k) (length s)) e
-  where
-    on : (frameEnd s (beginOf s k) ≤ length s → framesFrom s m (suc k) ≡ Whole n → beginOf s n ≤ length s) → (x : Frame) → frameOf s (beginOf s k) k ≡ x → onFrame x (framesFrom s m (suc k)) ≡ Whole n → beginOf s n ≤ length s
-    on up (Frames.To q) d f = up (to-framed s (beginOf s k) k q d .inside) f
-    on up (Frames.Refused r) d f = absurd (no-frame n r f)
-
-    go : (frameEnd s (beginOf s k) ≤ length s → framesFrom s m (suc k) ≡ Whole n → beginOf s n ≤ length s) → (t : Bool) → cond t (onFrame (frameOf s (beginOf s k) k) (framesFrom s m (suc k))) (Whole k) ≡ Whole n → beginOf s n ≤ length s
-    go up true f = on up (frameOf s (beginOf s k) k) refl f
-    go up false f = let z : k ≡ n = cc in rw z at h
 
 -- ---- all pairs pass
 no-refusal : (r : Refusal) → Verdicts.Refused r ≡ Verdicts.Passed → ⊥
@@ -143,11 +119,14 @@ module _ (w : Strategies) (s : List ℕ) (g : CorrectionStats) (n p o : ℕ) (u 
       frames (Broken r) f d = absurd (refused-done r n p o _ u _ h d)
       frames (Whole m) f d = pairs m f (judgeBy (verdictAt w s) (pairsOf s m)) refl d
 
+  -- the counts are those given and each pair's growth
+  pub done-grown : framedOf w s g ≡ ended (Done n p o) u h → h ≡ grown w s (pairsOf s n) g
+  done-grown e = staged e .counts
+
   pub accepted : framedOf w s g ≡ ended (Done n p o) u h → Accepted w s g n p o u h
-  unfolding beginOf
   accepted e =
       let t = staged e in
-      let fit = whole-fit s n 256 0 (omega arith) (t .framed) in
+      let fit : beginOf s n ≤ length s = omega (arith, whole-clean s n (t .framed) .1 .1) in
       let once = pairs-once s n in
       let l = pairsOf s n in
       record {
@@ -167,7 +146,7 @@ module _ (w : Strategies) (s : List ℕ) (g : CorrectionStats) (n p o : ℕ) (u 
 
 -- ---- no second outcome fits
 -- where byte x lies: in a record of a pair, or in none
-data Spot (s : List ℕ) (l : List (ℕ × ℕ)) (x : ℕ) : Type 0 where
+pub data Spot (s : List ℕ) (l : List (ℕ × ℕ)) (x : ℕ) : Type 0 where
   in-first : (i j : ℕ) → Among l i j → startOf s i ≤ x → x < endOf s i → Spot s l x
   in-second : (i j : ℕ) → Among l i j → startOf s j ≤ x → x < endOf s j → Spot s l x
   in-none : ((i j : ℕ) → Among l i j → Elsewhere s i x × Elsewhere s j x) → Spot s l x
@@ -175,7 +154,7 @@ data Spot (s : List ℕ) (l : List (ℕ × ℕ)) (x : ℕ) : Type 0 where
 side : (s : List ℕ) (i x : ℕ) → ((startOf s i ≤ x) × (x < endOf s i)) ⊎ Elsewhere s i x
 side s i x = ⊎-elim (λ (a : x < startOf s i). inr (inl a)) (λ (b : startOf s i ≤ x). ⊎-elim (λ (c : x < endOf s i). inl (b, c)) (λ (d : endOf s i ≤ x). inr (inr d)) (lt-or-le x (endOf s i))) (lt-or-le x (startOf s i))
 
-locate : (s : List ℕ) (l : List (ℕ × ℕ)) (x : ℕ) → Spot s l x
+pub locate : (s : List ℕ) (l : List (ℕ × ℕ)) (x : ℕ) → Spot s l x
 locate s [] x = in-none (λ i j a. absurd (among-none i j a))
 locate s (e ∷ l) x =
     ⊎-elim (λ (a : (startOf s (e .0) ≤ x) × (x < endOf s (e .0))). in-first (e .0) (e .1) (here e l) (a .0) (a .1))
@@ -187,7 +166,7 @@ locate s (e ∷ l) x =
     on a b (in-second i j z p q) = in-second i j (later e l i j z) p q
     on a b (in-none f) = in-none (λ i j z. ⊎-elim (λ (y : (i ≡ e .0) × (j ≡ e .1)). (rw (y .0) a, rw (y .1) b)) (λ (y : Among l i j). f i j y) (among-cons e l i j z))
 
-byte-in : (u : List ℕ) (a e x : ℕ) → a ≤ x → x < e → getD u x 0 ≡ getD (part u a e) (x - a) 0
+pub byte-in : (u : List ℕ) (a e x : ℕ) → a ≤ x → x < e → getD u x 0 ≡ getD (part u a e) (x - a) 0
 byte-in u a e x h k =
     let m : x ≡ a + (x - a) = omega arith in
     ap (λ (z : ℕ). getD u z 0) m ∙ sym (getD-drop a u (x - a) 0) ∙ sym (getD-take (e - a) (drop a u) (x - a) 0 (omega arith))

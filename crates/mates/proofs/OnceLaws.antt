@@ -149,6 +149,10 @@ module _ (f : ℕ → ℕ) where
       go zero e = omega (arith, times-split (pairsFrom f i m) k, no-first k e m i, seconds-one inj k m i)
       go (suc j) e = omega (arith, times-split (pairsFrom f i m) k, firsts-one k m i, no-second k m i (λ i′ l e′. omega (arith, apart i′ k e′, e)))
 
+  -- a record that is no first, and that no first is sent to, stands nowhere
+  pub none-there : (k m : ℕ) → f k ≡ 0 → ((i : ℕ) → f i ≡ suc k → ⊥) → times (pairsFrom f 0 m) k ≡ 0
+  none-there k m z none = omega (arith, times-split (pairsFrom f 0 m) k, no-first k z m 0, no-second k m 0 (λ i l e. none i e))
+
   pub within : (n : ℕ) → ((i k : ℕ) → f i ≡ suc k → k < n) → (m i k : ℕ) → i + m ≤ n → 0 < times (pairsFrom f i m) k → k < n
   within n below m i k h t = ⊎-elim (λ l. l)
       (λ (g : n ≤ k). absurd (omega (arith, times-split (pairsFrom f i m) k, high-first m i k (omega arith), no-second k m i (λ j l e. omega (arith, below j k e)))))

@@ -1,36 +1,13 @@
-// The exported pair call, for a host program in C or Rust to link. include/overlap.h declares it.
-use pair::Answer;
+// The exported calls, for a host program in C or Rust to link. include/overlap.h declares them.
+use filed::FiledAnswer;
+use filing::Filing;
 use refusal::Refusal;
-use stats::CorrectionStats;
-use strategy::Numbered;
 ghost use mathlib.Core.Path.{_≡_};
-ghost use Prim.Native.Nat.{ℕ, _<_, _≤_};
-ghost use lib.ListN.{length};
-ghost use Rattle.overlap_c.specs.Call.{countsOf, withCounts, returned, callOf};
+ghost use Rattle.pair_code.specs.Call.{returned, callOf};
+ghost use Rattle.overlap_c.specs.FiledCall.{filedReturned, filedCallOf, trailerReturned, trailerCallOf};
 
-// The four counts of a slice of 32 bytes.
-fn counts_of(s: &[u8]) -> CorrectionStats
-    requires { ⌜ 32 ≤ length (now s) ⌝ }
-    ensures { λ r. ⌜ r ≡ countsOf (now (s .entry)) ⌝ }
-{
-    CorrectionStats {
-        overlapping: fields::u64_at(s, 0),
-        agreeing: fields::u64_at(s, 8),
-        disagreeing: fields::u64_at(s, 16),
-        corrected: fields::u64_at(s, 24),
-    }
-}
-
-// The four counts written over the slice's 32 bytes.
-fn put_counts(s: &mut [u8], g: CorrectionStats)
-    requires { ⌜ 32 ≤ length (now s) ⌝ }
-    ensures { λ _. ⌜ now (s .exit) ≡ withCounts (now (s .entry)) g ⌝ }
-{
-    fields::put_u64(s, 0, g.overlapping);
-    fields::put_u64(s, 8, g.agreeing);
-    fields::put_u64(s, 16, g.disagreeing);
-    fields::put_u64(s, 24, g.corrected);
-}
+// How many bytes the four counts take.
+const COUNTS: usize = 32;
 
 // The pair call over two records, two strategy numbers and the four counts as 32 bytes. It answers
 // 0 for no overlap, 1 for overlap, else 1000 + 100 * place + number; it writes only for 1.
@@ -44,25 +21,54 @@ pub extern "C" fn overlap_call(
 ) -> u32
     ensures { λ r. ⌜ returned r (now (first .exit)) (now (second .exit)) (now (counts .exit)) ≡ callOf (now (first .entry)) (now (second .entry)) agreement disagreement (now (counts .entry)) ⌝ }
 {
-    if counts.len() != 32 {
+    pair_code::call(first, second, agreement, disagreement, counts)
+}
+
+// The call on a filed group, and the four counts as 32 bytes. It answers 0 where the group was corrected
+// into `out`, 1 where it had been corrected before, else 1000 + 100 * place + number; it writes only for 0.
+#[no_mangle]
+pub extern "C" fn overlap_filed_call(filed: &[u8], out: &mut [u8], counts: &mut [u8]) -> u32
+    ensures { λ r. ⌜ filedReturned r (now (out .exit)) (now (counts .exit)) ≡ filedCallOf (now (filed .entry)) (now (out .entry)) (now (counts .entry)) ⌝ }
+{
+    if counts.len() != COUNTS {
         return Refusal::CountsSlice.code();
     }
-    let numbered = strategy::by_number(agreement, disagreement);
-    let Numbered::Are(w) = numbered else {
-        return Refusal::Strategy.code();
-    };
-    let stats = counts_of(counts);
-    let m = w.agreement;
-    let k = w.disagreement;
-    let called = pair::call(first, second, m, k, stats);
+    let stats = tally::counts_at(counts, 0);
+    let called = filed::correct(filed, out, stats);
     let answer = called.answer;
     match answer {
-        Answer::NoOverlap => 0,
-        Answer::Overlap => {
+        FiledAnswer::Corrected {
+            records: _,
+            pairs: _,
+            overlapping: _,
+            growth: _,
+        } => {
             let after = called.stats;
-            put_counts(counts, after);
-            1
+            tally::put_counts(counts, 0, after);
+            0
         }
-        Answer::Refused(r) => r.code(),
+        FiledAnswer::AlreadyDone {
+            records: _,
+            growth: _,
+        } => 1,
+        FiledAnswer::Refused(r) => r.code(),
+    }
+}
+
+// The raw trailer of framed records, made in the first 50 bytes of `trailer` for the strategies of these
+// numbers. It answers 0, else 1000 + 100 * place + number; it writes only for 0.
+#[no_mangle]
+pub extern "C" fn overlap_trailer_call(
+    frames: &[u8],
+    agreement: u32,
+    disagreement: u32,
+    trailer: &mut [u8],
+) -> u32
+    ensures { λ r. ⌜ trailerReturned r (now (trailer .exit)) ≡ trailerCallOf (now (frames .entry)) agreement disagreement (now (trailer .entry)) ⌝ }
+{
+    let filing = filing::file(frames, agreement, disagreement, trailer);
+    match filing {
+        Filing::Made(_) => 0,
+        Filing::Refused(r) => r.code(),
     }
 }

@@ -24,8 +24,9 @@ use Rattle.group.specs.declared.GroupAnswer.the-variants.{Done, Refused}
 use Rattle.group.specs.Group.{ended, onNumbered, groupOf}
 use Rattle.group.proofs.PromiseLaws.{refused-keeps}
 use Rattle.text.specs.Line.{doneText, refusalText}
-use Rattle.overlap_line.specs.Overlap.{numberAt, Output, alone, outputBy, outputOf, overlapOf}
+use Rattle.text.specs.Output.{Output, alone}
 use Rattle.text.specs.Put.{Put}
+use Rattle.overlap_line.specs.Overlap.{numberAt, outputBy, outputOf, overlapOf}
 use Rattle.overlap_line.specs.Told.{Told}
 
 -- ---- a line and no group: the input is as it came

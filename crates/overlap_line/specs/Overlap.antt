@@ -1,7 +1,7 @@
 -- What the program `overlap` writes, by what it reads.
 use Prim.Native.Nat.{ℕ, _-_}
 use mathlib.Core.Bool.{cond}
-use mathlib.Core.List.{List, []}
+use mathlib.Core.List.{List}
 use lib.Dec.{ltb}
 use lib.ListN.{length, getD, drop}
 use Rattle.refusal.specs.declared.Refusal.the-variants.{Input}
@@ -10,18 +10,11 @@ use Rattle.group.specs.declared.GroupAnswer.{GroupAnswer}
 use Rattle.group.specs.declared.GroupAnswer.the-variants.{Done, Refused}
 use Rattle.group.specs.Group.{Ended, groupOf}
 use Rattle.text.specs.Line.{doneText, refusalText}
+use Rattle.text.specs.Output.{Output, alone}
 
 -- the number of the digit at byte k; 3, which names no strategy, for a missing byte or one below `0`
 abbrev pub numberAt : List ℕ → ℕ → ℕ
 numberAt s k = cond (ltb k (length s)) (cond (ltb (getD s k 0) 48) 3 (getD s k 0 - 48)) 3
-
--- what is written: a line, then a group or nothing
-pub record Output : Type 0 where
-  pub line : List ℕ
-  pub group : List ℕ
-
-abbrev pub alone : List ℕ → Output
-alone text = record { line = text; group = [] }
 
 -- accepted: the group follows; refused: the line alone
 abbrev pub outputBy : GroupAnswer → Ended → Output

@@ -1,7 +1,7 @@
 -- The paper's number and place of each refusal.
 use Prim.Native.Nat.{ℕ, _+_, _*_}
 use Rattle.refusal.specs.declared.Refusal.{Refusal}
-use Rattle.refusal.specs.declared.Refusal.the-variants.{RecordShort, RecordLong, NameAndOperations, BasesAndQualities, OperationCode, OperationLength, ReadTotal, ReferenceEnd, Count, Strategy, Frame, TooManyRecords, Sum, Input, CountsSlice}
+use Rattle.refusal.specs.declared.Refusal.the-variants.{RecordShort, RecordLong, NameAndOperations, BasesAndQualities, OperationCode, OperationLength, ReadTotal, ReferenceEnd, Count, Strategy, Frame, TooManyRecords, Sum, Input, CountsSlice, OutputShort, TrailerMissing, TrailerField}
 
 abbrev pub numberOf : Refusal → ℕ
 numberOf (RecordShort p) = 1
@@ -19,6 +19,9 @@ numberOf TooManyRecords = 12
 numberOf Sum = 13
 numberOf Input = 14
 numberOf CountsSlice = 15
+numberOf OutputShort = 19
+numberOf TrailerMissing = 20
+numberOf TrailerField = 21
 
 abbrev pub placeOf : Refusal → ℕ
 placeOf (RecordShort p) = p
@@ -36,6 +39,9 @@ placeOf TooManyRecords = 256
 placeOf Sum = 0
 placeOf Input = 0
 placeOf CountsSlice = 0
+placeOf OutputShort = 0
+placeOf TrailerMissing = 0
+placeOf TrailerField = 0
 
 -- what an exported call answers
 abbrev pub codeOf : Refusal → ℕ

@@ -20,6 +20,9 @@ pub enum Refusal {
     Sum,
     Input,
     CountsSlice,
+    OutputShort,
+    TrailerMissing,
+    TrailerField,
 }
 
 impl Refusal {
@@ -43,6 +46,9 @@ impl Refusal {
             Refusal::Sum => 13,
             Refusal::Input => 14,
             Refusal::CountsSlice => 15,
+            Refusal::OutputShort => 19,
+            Refusal::TrailerMissing => 20,
+            Refusal::TrailerField => 21,
         }
     }
 
@@ -66,6 +72,9 @@ impl Refusal {
             Refusal::Sum => 0,
             Refusal::Input => 0,
             Refusal::CountsSlice => 0,
+            Refusal::OutputShort => 0,
+            Refusal::TrailerMissing => 0,
+            Refusal::TrailerField => 0,
         }
     }
 

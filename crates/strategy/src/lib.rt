@@ -205,6 +205,28 @@ fn disagreement_of(n: u32) -> DisagreementStrategy
     DisagreementStrategy::MaskLowerQual
 }
 
+// The number that stands for a strategy of agreement.
+pub fn agreement_number(m: AgreementStrategy) -> u32
+    ensures { λ r. ⌜ some m ≡ agreementOf r ⌝ }
+{
+    match m {
+        AgreementStrategy::Consensus => 0,
+        AgreementStrategy::MaxQual => 1,
+        AgreementStrategy::PassThrough => 2,
+    }
+}
+
+// The number that stands for a strategy of disagreement.
+pub fn disagreement_number(k: DisagreementStrategy) -> u32
+    ensures { λ r. ⌜ some k ≡ disagreementOf r ⌝ }
+{
+    match k {
+        DisagreementStrategy::Consensus => 0,
+        DisagreementStrategy::MaskBoth => 1,
+        DisagreementStrategy::MaskLowerQual => 2,
+    }
+}
+
 // The strategies that two numbers stand for. Refused where either is not 0 to 2.
 pub fn by_number(agreement: u32, disagreement: u32) -> Numbered
     ensures { λ r. ⌜ r ≡ numberedOf agreement disagreement ⌝ }

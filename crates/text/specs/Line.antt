@@ -23,6 +23,12 @@ doneText records pairs overlapping g =
     (111 ∷ 107 ∷ []) ++ spaced records ++ spaced pairs ++ spaced overlapping
     ++ (spaced (g .overlapping) ++ spaced (g .agreeing) ++ spaced (g .disagreeing) ++ spaced (g .corrected)) ++ (10 ∷ [])
 
+-- `done`, records and the growth of the four counts
+abbrev pub alreadyText : ℕ → CorrectionStats → List ℕ
+alreadyText records g =
+    (100 ∷ 111 ∷ 110 ∷ 101 ∷ []) ++ spaced records
+    ++ (spaced (g .overlapping) ++ spaced (g .agreeing) ++ spaced (g .disagreeing) ++ spaced (g .corrected)) ++ (10 ∷ [])
+
 -- `no`, number and place
 abbrev pub refusalText : Refusal → List ℕ
 refusalText r = (110 ∷ 111 ∷ []) ++ spaced (numberOf r) ++ spaced (placeOf r) ++ (10 ∷ [])

@@ -6,7 +6,7 @@ ghost use mathlib.Core.Path.{_≡_};
 ghost use Prim.Native.Nat.{_+_, _≤_};
 ghost use mathlib.Core.List.{_++_};
 ghost use lib.ListN.{length, take, drop};
-ghost use Rattle.text.specs.Line.{spaced, doneText, refusalText};
+ghost use Rattle.text.specs.Line.{spaced, doneText, alreadyText, refusalText};
 ghost use Rattle.text.specs.Put.{Put};
 
 // Puts a text into `out` from byte `at` on, and answers where it ends.
@@ -61,6 +61,17 @@ pub fn put_done(
     let d = put_number(out, c, overlapping as u64);
     let e = put_counts(out, d, g);
     put_text(out, e, b"\n")
+}
+
+// The line of a group that was corrected before, at the start of `out`.
+pub fn put_already(out: &mut [u8], records: usize, g: CorrectionStats) -> usize
+    requires { ⌜ 256 ≤ length (now out) ⌝ }
+    ensures { λ r. ⌜ Put (now (out .entry)) 0 (alreadyText records g) (now (out .exit)) r × (r ≤ 256) ⌝ }
+{
+    let a = put_text(out, 0, b"done");
+    let b = put_number(out, a, records as u64);
+    let c = put_counts(out, b, g);
+    put_text(out, c, b"\n")
 }
 
 // The line of a refusal, at the start of `out`.

@@ -4,7 +4,7 @@ use mathlib.Core.Bool.{cond}
 use mathlib.Core.List.{List, [], _∷_}
 use lib.Dec.{eqb}
 use Rattle.refusal.specs.declared.Refusal.{Refusal}
-use Rattle.refusal.specs.declared.Refusal.the-variants.{RecordShort, RecordLong, NameAndOperations, BasesAndQualities, OperationCode, OperationLength, ReadTotal, ReferenceEnd, Count, Strategy, Frame, TooManyRecords, Sum, Input, CountsSlice}
+use Rattle.refusal.specs.declared.Refusal.the-variants.{RecordShort, RecordLong, NameAndOperations, BasesAndQualities, OperationCode, OperationLength, ReadTotal, ReferenceEnd, Count, Strategy, Frame, TooManyRecords, Sum, Input, CountsSlice, OutputShort, TrailerMissing, TrailerField}
 use Rattle.stats.specs.Counts.{zeroed}
 use Rattle.strategy.specs.declared.Strategies.{Strategies}
 use Rattle.positions.specs.Step.{state}
@@ -39,6 +39,9 @@ atIndex i j TooManyRecords = TooManyRecords
 atIndex i j Sum = Sum
 atIndex i j Input = Input
 atIndex i j CountsSlice = CountsSlice
+atIndex i j OutputShort = OutputShort
+atIndex i j TrailerMissing = TrailerMissing
+atIndex i j TrailerField = TrailerField
 
 abbrev pub answered : ℕ → ℕ → Answer → Verdict
 answered i j Answers.NoOverlap = Passed

@@ -1,0 +1,7 @@
+pub mod ShortLaws
+pub mod StageLaws
+pub mod WriteLaws
+pub mod MadeLaws
+pub mod SafeLaws
+pub mod RoomLaws
+pub mod KeepLaws

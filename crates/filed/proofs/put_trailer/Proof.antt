@@ -1,0 +1,81 @@
+-- `filed::put_trailer` meets its contract. Assumes nothing.
+use Prim.Native.Nat.{ℕ, _+_}
+use mathlib.Core.Path.{ap, _∙_}
+use mathlib.Core.List.{List}
+use Rattle.frames.specs.Part.{splice}
+use Rattle.trailer.specs.Trailer.{stamped}
+use denote.Ref.{now}
+use borrow.Author.Needs.{needs}
+use Rattle.filed.proofs.put_trailer.Statement.{statement}
+use Rattle.filed.proofs.put_trailer.Tie as tie
+use Rattle.applying.proofs.copy.Reads as copy-reads
+use Rattle.trailer.proofs.stamp.Reads as stamp-reads
+
+slice-aggregate-copy : tie.Need-slice-aggregate-copy
+slice-aggregate-copy c = search needs
+
+add-copy : tie.Need-add-copy
+add-copy c = search needs
+
+sub-copy : tie.Need-sub-copy
+sub-copy c = search needs
+
+part-copy-start : tie.Need-part-copy-start
+part-copy-start c = search needs
+
+part-copy-end : tie.Need-part-copy-end
+part-copy-end c = search needs
+
+copy-requires : tie.Need-copy-requires
+copy-requires c κs = search needs
+
+slice-aggregate-stamp : tie.Need-slice-aggregate-stamp
+slice-aggregate-stamp c = search needs
+
+stamp-requires : tie.Need-stamp-requires
+stamp-requires c κs = search needs
+
+add-copy-2 : tie.Need-add-copy-2
+add-copy-2 c = search needs
+
+sub-copy-2 : tie.Need-sub-copy-2
+sub-copy-2 c = search needs
+
+part-copy-start-2 : tie.Need-part-copy-start-2
+part-copy-start-2 c = search needs
+
+part-copy-end-2 : tie.Need-part-copy-end-2
+part-copy-end-2 c = search needs
+
+slice-aggregate-copy-2 : tie.Need-slice-aggregate-copy-2
+slice-aggregate-copy-2 c = search needs
+
+copy-requires-2 : tie.Need-copy-requires-2
+copy-requires-2 c κs = search needs
+
+same-length : tie.Need-same-length
+same-length c = search needs
+
+returns : tie.Need-returns
+returns c = ap (λ (x : List ℕ). splice (now (c .before .before .before .before .before .before .before .before .before .before .before .before .before .before .args .out)) (c .before .before .before .before .before .before .before .before .before .before .before .before .before .before .args .p) (c .before .before .before .before .before .before .before .before .before .before .before .before .before .before .args .p + 50) x) ((c .before .before .copy2 .ensures) ∙ (c .before .before .before .before .before .before .stamp .ensures) ∙ ap (λ (x : List ℕ). stamped x (c .before .before .before .before .before .before .before .before .before .before .before .before .before .before .args .growth)) (c .before .before .before .before .before .before .before .before .before .copy .ensures))
+
+pub put-trailer-spec : {M : Type 1} → statement M
+put-trailer-spec =
+    tie.close
+    (tie.spec
+    slice-aggregate-copy
+    add-copy
+    sub-copy
+    part-copy-start
+    part-copy-end
+    copy-requires
+    slice-aggregate-stamp
+    stamp-requires
+    add-copy-2
+    sub-copy-2
+    part-copy-start-2
+    part-copy-end-2
+    slice-aggregate-copy-2
+    copy-requires-2
+    same-length
+    returns)

@@ -1,0 +1,3 @@
+pub mod Filed
+pub mod Promise
+pub mod Final

@@ -1,0 +1,2 @@
+pub mod FiledLine
+pub mod Told

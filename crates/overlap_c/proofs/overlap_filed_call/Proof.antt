@@ -1,0 +1,88 @@
+-- `overlap_c::overlap_filed_call` meets its contract. Assumes nothing.
+use Rattle.filed.specs.Filed.{ended}
+use Rattle.overlap_c.proofs.FiledCallLaws.{filed-slice-wrong, filed-corrected, filed-known, filed-refused}
+use denote.Ref.{now}
+use borrow.Author.Needs.{needs}
+use Rattle.overlap_c.proofs.overlap_filed_call.Statement.{statement}
+use Rattle.overlap_c.proofs.overlap_filed_call.Tie as tie
+use Rattle.filed.proofs.correct.Reads as correct-reads
+use Rattle.refusal.proofs.Refusal.code.Reads as code-reads
+use Rattle.tally.proofs.counts_at.Reads as counts-at-reads
+use Rattle.tally.proofs.put_counts.Reads as put-counts-reads
+
+code-requires : tie.Need-code-requires
+code-requires c κs = search needs
+
+returns : tie.Need-returns
+returns c = filed-slice-wrong (now (c .before .before .before .before .before .args .filed)) (now (c .before .before .before .before .before .args .out)) (now (c .before .before .before .before .before .args .counts)) _ (c .code .ensures) (c .before .if1 .taken)
+
+counts-at-requires : tie.Need-counts-at-requires
+counts-at-requires c κs = search needs
+
+correct-requires : tie.Need-correct-requires
+correct-requires c κs = search needs
+
+enum-told : tie.Need-enum-told
+enum-told c = search needs
+
+put-counts-requires : tie.Need-put-counts-requires
+put-counts-requires c κs = search needs
+
+enum-told-2 : tie.Need-enum-told-2
+enum-told-2 c = search needs
+
+enum-known-answer : tie.Need-enum-known-answer
+enum-known-answer c = search needs
+
+code-requires-2 : tie.Need-code-requires-2
+code-requires-2 c κs = search needs
+
+same-length : tie.Need-same-length
+same-length c = search needs
+
+same-length-2 : tie.Need-same-length-2
+same-length-2 c = search needs
+
+returns-2 : tie.Need-returns-2
+returns-2 c = filed-corrected (now (c .before .before .before .before .before .before .before .before .before .before .before .before .before .before .before .before .before .args .filed)) (now (c .before .before .before .before .before .before .before .before .before .before .before .before .before .before .before .before .before .args .out)) (now (c .before .before .before .before .before .before .before .before .before .before .before .before .before .before .before .before .before .args .counts)) (c .before .before .before .before .before .before .before .before .before .before .before .before .before .if1 .left) (c .before .before .before .before .before .before .before .before .before .before .before .counts-at .result) (c .before .before .before .before .before .before .before .before .before .before .before .counts-at .ensures) (ended (c .before .before .before .before .before .before .before .before .before .correct .result .answer) _ (c .before .before .before .before .before .before .before .before .before .correct .result .stats)) (c .before .before .before .before .before .before .before .before .before .correct .ensures) _ _ _ _ _ (c .before .before .before .before .before .enum-told .given .1) (c .before .before .put-counts .ensures)
+
+same-length-3 : tie.Need-same-length-3
+same-length-3 c = search needs
+
+same-length-4 : tie.Need-same-length-4
+same-length-4 c = search needs
+
+returns-3 : tie.Need-returns-3
+returns-3 c = filed-known (now (c .before .before .before .before .before .before .before .before .before .before .before .before .args .filed)) (now (c .before .before .before .before .before .before .before .before .before .before .before .before .args .out)) (now (c .before .before .before .before .before .before .before .before .before .before .before .before .args .counts)) (c .before .before .before .before .before .before .before .before .if1 .left) (c .before .before .before .before .before .before .counts-at .result) (c .before .before .before .before .before .before .counts-at .ensures) (ended (c .before .before .before .before .correct .result .answer) _ (c .before .before .before .before .correct .result .stats)) (c .before .before .before .before .correct .ensures) _ _ (c .enum-told2 .given .1)
+
+same-length-5 : tie.Need-same-length-5
+same-length-5 c = search needs
+
+same-length-6 : tie.Need-same-length-6
+same-length-6 c = search needs
+
+returns-4 : tie.Need-returns-4
+returns-4 c = filed-refused (now (c .before .before .before .before .before .before .before .before .before .before .before .before .before .before .args .filed)) (now (c .before .before .before .before .before .before .before .before .before .before .before .before .before .before .args .out)) (now (c .before .before .before .before .before .before .before .before .before .before .before .before .before .before .args .counts)) (c .before .before .before .before .before .before .before .before .before .before .if1 .left) (c .before .before .before .before .before .before .before .before .counts-at .result) (c .before .before .before .before .before .before .before .before .counts-at .ensures) (ended (c .before .before .before .before .before .before .correct .result .answer) _ (c .before .before .before .before .before .before .correct .result .stats)) (c .before .before .before .before .before .before .correct .ensures) _ _ (c .before .before .answer .given .1) (c .code2 .ensures)
+
+pub overlap-filed-call-spec : {M : Type 1} → statement M
+overlap-filed-call-spec =
+    tie.close
+    (tie.spec
+    code-requires
+    returns
+    counts-at-requires
+    correct-requires
+    enum-told
+    put-counts-requires
+    enum-told-2
+    enum-known-answer
+    code-requires-2
+    same-length
+    same-length-2
+    returns-2
+    same-length-3
+    same-length-4
+    returns-3
+    same-length-5
+    same-length-6
+    returns-4)

@@ -1,0 +1,44 @@
+// The pair call as a host makes it: strategies by their numbers, counts as bytes, and one number for the
+// answer.
+use pair::Answer;
+use refusal::Refusal;
+use strategy::Numbered;
+ghost use mathlib.Core.Path.{_≡_};
+ghost use Rattle.pair_code.specs.Call.{returned, callOf};
+
+// How many bytes the four counts take.
+const COUNTS: usize = 32;
+
+// The pair call over two records, two strategy numbers and the four counts as 32 bytes. It answers
+// 0 for no overlap, 1 for overlap, else 1000 + 100 * place + number; it writes only for 1.
+pub fn call(
+    first: &mut [u8],
+    second: &mut [u8],
+    agreement: u32,
+    disagreement: u32,
+    counts: &mut [u8],
+) -> u32
+    ensures { λ r. ⌜ returned r (now (first .exit)) (now (second .exit)) (now (counts .exit)) ≡ callOf (now (first .entry)) (now (second .entry)) agreement disagreement (now (counts .entry)) ⌝ }
+{
+    if counts.len() != COUNTS {
+        return Refusal::CountsSlice.code();
+    }
+    let numbered = strategy::by_number(agreement, disagreement);
+    let Numbered::Are(w) = numbered else {
+        return Refusal::Strategy.code();
+    };
+    let stats = tally::counts_at(counts, 0);
+    let m = w.agreement;
+    let k = w.disagreement;
+    let called = pair::call(first, second, m, k, stats);
+    let answer = called.answer;
+    match answer {
+        Answer::NoOverlap => 0,
+        Answer::Overlap => {
+            let after = called.stats;
+            tally::put_counts(counts, 0, after);
+            1
+        }
+        Answer::Refused(r) => r.code(),
+    }
+}

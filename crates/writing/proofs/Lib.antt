@@ -1,0 +1,9 @@
+pub mod TreatLaws
+pub mod LeadLaws
+pub mod CopyLaws
+pub mod FrontLaws
+pub mod RecordLaws
+pub mod PlaceLaws
+pub mod ChosenLaws
+pub mod TurnLaws
+pub mod GrowthLaws

@@ -1,0 +1,192 @@
+/*
+ * The filed call and the trailer call as the paper and include/overlap.h tell them, in plain C. What a
+ * pair becomes, what it answers and what it adds is asked of overlap_call; all else stands here.
+ */
+enum { MOST_RECORDS = 256, LONGEST = 65536 };
+#define COUNT_LIMIT UINT64_C(18446744073692774399)
+
+/* Where the numbers of a record stand, and where those of a trailer do. */
+enum { REF_ID = 0, POS = 4, NAME_LENGTH = 8, OPERATION_COUNT = 12, FLAGS = 14, L_SEQ = 16, NAME = 32 };
+enum { STATE = 4, STRATEGIES = 5, RECORDS = 6, GROWTH = 10, DISTANCE = 42, TRAILER = 50 };
+
+/* The longest group that is tried. */
+enum { ROOM = 1 << 19 };
+
+/* The answer for a refusal by number, at the record of an index, or at 0. */
+#define REFUSED(number, place) (1000u + 100u * (uint32_t)(place) + (uint32_t)(number))
+
+/* ---- Frames ---- */
+
+/* The number that refuses a record of so many bytes, or 0. */
+static uint32_t fault_of(const uint8_t *r, uint64_t size)
+{
+    if (size < NAME)
+        return 1;
+    if (size > LONGEST)
+        return 2;
+    uint64_t bases = NAME + number_at(r + NAME_LENGTH, 1) + 4 * number_at(r + OPERATION_COUNT, 2);
+    uint64_t count = number_at(r + L_SEQ, 4);
+    if (bases > size)
+        return 3;
+    return bases + (count + 1) / 2 + count > size ? 4 : 0;
+}
+
+/* A group cut into frames: where each begins, and behind them where the last one ends. */
+struct cut {
+    uint32_t refusal;   /* the answer that a faulty frame gives, or 0 */
+    int zero;           /* whether a zero size ended the frames */
+    size_t records, begin[MOST_RECORDS + 1];
+};
+
+static void cut_frames(struct cut *c, const uint8_t *s, size_t len, int zero_ends)
+{
+    size_t at = 0;
+    memset(c, 0, sizeof *c);
+    while (at < len) {
+        size_t left = len - at;
+        uint64_t size = left < 4 ? 0 : number_at(s + at, 4);
+        uint32_t fault = 0;
+        if (zero_ends && left >= 4 && size == 0) {
+            c->zero = 1;
+            return;
+        }
+        if (c->records == MOST_RECORDS)
+            fault = 12;
+        else if (left < 4 || size > left - 4)
+            fault = 11;
+        else
+            fault = fault_of(s + at + 4, size);
+        if (fault != 0) {
+            c->refusal = REFUSED(fault, c->records);
+            return;
+        }
+        at += 4 + (size_t)size;
+        c->begin[++c->records] = at;
+    }
+}
+
+/* ---- Mates ---- */
+
+enum { NO_PLACE, FIRST, LAST };
+
+static int place_of(const uint8_t *r)
+{
+    uint64_t flags = number_at(r + FLAGS, 2);
+    if (flags & (256 | 2048))
+        return NO_PLACE;
+    return flags & 64 ? FIRST : flags & 128 ? LAST : NO_PLACE;
+}
+
+static int same_name(const uint8_t *r, const uint8_t *s)
+{
+    size_t n = r[NAME_LENGTH] > 1 ? r[NAME_LENGTH] - 1u : 0;
+    size_t m = s[NAME_LENGTH] > 1 ? s[NAME_LENGTH] - 1u : 0;
+    return n == m && memcmp(r + NAME, s + NAME, n) == 0;
+}
+
+/* Each record registers, and takes the registration of an earlier one of its name and place. */
+static void register_all(const uint8_t *s, const struct cut *c, int *place)
+{
+    for (size_t k = 0; k < c->records; k++) {
+        const uint8_t *r = s + c->begin[k] + 4;
+        place[k] = place_of(r);
+        for (size_t i = 0; i < k; i++)
+            if (place[i] != NO_PLACE && place[i] == place[k] && same_name(s + c->begin[i] + 4, r))
+                place[i] = NO_PLACE;
+    }
+}
+
+/* Corrects the pair of records i and j where they stand, and adds to the growth. 0, or the refusal. */
+static uint32_t correct_pair(uint8_t *s, const struct cut *c, size_t i, size_t j, unsigned strategies, uint64_t *growth)
+{
+    uint8_t counts[32] = {0};
+    uint32_t answer = overlap_call(s + c->begin[i] + 4, c->begin[i + 1] - c->begin[i] - 4,
+                                   s + c->begin[j] + 4, c->begin[j + 1] - c->begin[j] - 4,
+                                   strategies / 3, strategies % 3, counts, sizeof counts);
+    if (answer > 1)
+        return REFUSED(answer % 100, answer / 100 % 10 == 1 ? i : j);
+    for (int k = 0; k < 4; k++)
+        growth[k] += number_at(counts + 8 * k, 8);
+    return 0;
+}
+
+/* Corrects every pair, in order of the first's index. 0, or the refusal of the first that is refused. */
+static uint32_t correct_pairs(uint8_t *s, const struct cut *c, unsigned strategies, uint64_t *growth)
+{
+    int place[MOST_RECORDS];
+    register_all(s, c, place);
+    for (size_t i = 0; i < c->records; i++) {
+        for (size_t j = 0; place[i] == FIRST && j < c->records; j++) {
+            if (place[j] != LAST || !same_name(s + c->begin[i] + 4, s + c->begin[j] + 4))
+                continue;
+            uint32_t refusal = correct_pair(s, c, i, j, strategies, growth);
+            if (refusal != 0)
+                return refusal;
+        }
+    }
+    return 0;
+}
+
+/* ---- The two calls ---- */
+
+static int trailer_is_wrong(const uint8_t *t, size_t records, size_t distance)
+{
+    int grown = 0;
+    for (int i = 0; i < 32; i++)
+        grown |= t[GROWTH + i] != 0;
+    return t[STATE] > 1 || t[STRATEGIES] > 8 || number_at(t + RECORDS, 4) != records
+        || number_at(t + DISTANCE, 8) != distance || (t[STATE] == 0 && grown);
+}
+
+static uint32_t filed_model(const uint8_t *filed, size_t len, uint8_t *out, size_t out_len, uint8_t *counts, size_t counts_len)
+{
+    static uint8_t copy[ROOM];
+    struct cut c;
+    uint64_t growth[4] = {0};
+    if (counts_len != 32)
+        return REFUSED(15, 0);
+    for (int i = 0; i < 4; i++)
+        if (number_at(counts + 8 * i, 8) > COUNT_LIMIT)
+            return REFUSED(9, 0);
+    cut_frames(&c, filed, len, 1);
+    if (c.refusal != 0)
+        return c.refusal;
+    size_t frames = c.begin[c.records];
+    if (!c.zero || len - frames != TRAILER)
+        return REFUSED(20, 0);
+    memcpy(copy, filed, len);
+    uint8_t *trailer = copy + frames;
+    if (trailer_is_wrong(trailer, c.records, frames))
+        return REFUSED(21, 0);
+    if (trailer[STATE] == 1)
+        return 1;
+    uint32_t refusal = correct_pairs(copy, &c, trailer[STRATEGIES], growth);
+    if (refusal != 0)
+        return refusal;
+    if (out_len < len)
+        return REFUSED(19, 0);
+    trailer[STATE] = 1;
+    for (int i = 0; i < 4; i++) {
+        put(trailer + GROWTH + 8 * i, 8, growth[i]);
+        put(counts + 8 * i, 8, number_at(counts + 8 * i, 8) + growth[i]);
+    }
+    memcpy(out, copy, len);
+    return 0;
+}
+
+static uint32_t trailer_model(const uint8_t *frames, size_t len, uint32_t agreement, uint32_t disagreement, uint8_t *trailer, size_t trailer_len)
+{
+    struct cut c;
+    if (agreement > 2 || disagreement > 2)
+        return REFUSED(10, 0);
+    cut_frames(&c, frames, len, 0);
+    if (c.refusal != 0)
+        return c.refusal;
+    if (trailer_len < TRAILER)
+        return REFUSED(19, 0);
+    memset(trailer, 0, TRAILER);
+    trailer[STRATEGIES] = (uint8_t)(3 * agreement + disagreement);
+    put(trailer + RECORDS, 4, c.records);
+    put(trailer + DISTANCE, 8, len);
+    return 0;
+}
