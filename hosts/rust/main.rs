@@ -1,16 +1,31 @@
-//! A Rust host: calls the step on one pair and prints what came out.
-use overlap::{Agreement, Counts, Disagreement, call};
+//! A Rust host: calls the step on one pair and prints what came out; then files the same pair, has it
+//! corrected, and sends it again.
+use overlap::{Agreement, Counts, Disagreement, Refusal, call, correct_filed, trailer};
 
-fn main() {
+fn main() -> Result<(), Refusal> {
     // Four bases at positions 10 to 13 and four at 11 to 14, counted from 1.
     let mut first = record(9, 65, [0x12, 0x48], [30, 30, 30, 30]);
     let mut second = record(10, 129, [0x24, 0x11], [20, 30, 10, 40]);
     let mut counts = Counts::default();
 
+    let mut filed: Vec<u8> = [&first, &second].into_iter().flat_map(|r| framed(r)).collect();
+    let trailer = trailer(&filed, Agreement::Consensus, Disagreement::Consensus)?;
+    filed.extend(trailer);
+
     show("before", &first, &second);
     let answer = call(&mut first, &mut second, Agreement::Consensus, Disagreement::Consensus, &mut counts);
     show("after ", &first, &second);
     println!("{answer:?}, {counts:?}");
+
+    let (mut once, mut again) = (vec![0; filed.len()], vec![0; filed.len()]);
+    let answers = [correct_filed(&filed, &mut once, &mut counts), correct_filed(&once, &mut again, &mut counts)];
+    println!("filed: {answers:?}, {counts:?}");
+    Ok(())
+}
+
+/// A record behind its size.
+fn framed(r: &[u8]) -> Vec<u8> {
+    [&(r.len() as u32).to_le_bytes(), r].concat()
 }
 
 /// A record named "a" with one operation, 4M, on reference 0.

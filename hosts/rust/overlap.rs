@@ -1,10 +1,10 @@
-//! The exported pair call for Rust programs. include/overlap.h says what it does to the bytes.
+//! The exported calls for Rust programs. include/overlap.h says what they do to the bytes.
 //!
-//! Nothing is checked here that the call checks itself. What the types rule out before the call:
-//! the two records and the counts are borrowed mutably at once, so they can't overlap in memory;
-//! strategies are enums and counts are always 32 bytes, so refusals 10 and 15 can't come.
+//! Nothing is checked here that the calls check themselves. What the types rule out before a call:
+//! what is written is borrowed mutably, so no two slices can overlap in memory; strategies are
+//! enums and counts are always 32 bytes, so refusals 10 and 15 can't come.
 
-/// The call as the archive has it.
+/// The calls as the archive has them.
 pub mod raw {
     unsafe extern "C" {
         pub fn overlap_call(
@@ -16,6 +16,24 @@ pub mod raw {
             disagreement: u32,
             counts: *mut u8,
             counts_len: usize,
+        ) -> u32;
+
+        pub fn overlap_filed_call(
+            filed: *const u8,
+            filed_len: usize,
+            out: *mut u8,
+            out_len: usize,
+            counts: *mut u8,
+            counts_len: usize,
+        ) -> u32;
+
+        pub fn overlap_trailer_call(
+            frames: *const u8,
+            frames_len: usize,
+            agreement: u32,
+            disagreement: u32,
+            trailer: *mut u8,
+            trailer_len: usize,
         ) -> u32;
     }
 }
@@ -102,6 +120,67 @@ pub fn call(
         1101..=1108 => Answer::First(Fault::of(code - 1100)),
         1201..=1208 => Answer::Second(Fault::of(code - 1200)),
         _ => unreachable!("overlap_call answers no {code} here"),
+    }
+}
+
+/// A refusal by its number, and the index of the record at fault or 0; nothing was written.
+#[derive(Clone, Copy, Debug, PartialEq, Eq)]
+pub struct Refusal {
+    pub number: u32,
+    pub place: u32,
+}
+
+#[derive(Clone, Copy, Debug, PartialEq, Eq)]
+pub enum FiledAnswer {
+    /// The corrected filed group stands at the start of `out` and the counts have grown.
+    Corrected,
+    /// The group had been corrected before; nothing was written. Its trailer has the counts.
+    AlreadyDone,
+    Refused(Refusal),
+}
+
+/// Corrects a raw filed group into `out`, which has to be as long.
+pub fn correct_filed(filed: &[u8], out: &mut [u8], counts: &mut Counts) -> FiledAnswer {
+    let mut bytes = counts.to_bytes();
+    // SAFETY: each pointer comes with the length of its own live borrow, exclusive where it is written.
+    let code = unsafe {
+        raw::overlap_filed_call(
+            filed.as_ptr(),
+            filed.len(),
+            out.as_mut_ptr(),
+            out.len(),
+            bytes.as_mut_ptr(),
+            bytes.len(),
+        )
+    };
+    *counts = Counts::from_bytes(&bytes);
+    match code {
+        0 => FiledAnswer::Corrected,
+        1 => FiledAnswer::AlreadyDone,
+        _ => FiledAnswer::Refused(Refusal::of(code)),
+    }
+}
+
+/// The raw trailer of framed records: put it behind them, and they are a filed group.
+pub fn trailer(frames: &[u8], agreement: Agreement, disagreement: Disagreement) -> Result<[u8; 50], Refusal> {
+    let mut trailer = [0; 50];
+    // SAFETY: as above.
+    let code = unsafe {
+        raw::overlap_trailer_call(
+            frames.as_ptr(),
+            frames.len(),
+            agreement as u32,
+            disagreement as u32,
+            trailer.as_mut_ptr(),
+            trailer.len(),
+        )
+    };
+    if code == 0 { Ok(trailer) } else { Err(Refusal::of(code)) }
+}
+
+impl Refusal {
+    fn of(code: u32) -> Refusal {
+        Refusal { number: code % 100, place: (code - 1000) / 100 }
     }
 }
 
