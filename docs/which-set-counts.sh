@@ -5,6 +5,7 @@
 set -eu
 . "$(dirname "$0")/../scripts/settings.sh"
 need_program
+need_program_filed
 work=$(mktemp -d)
 trap 'rm -rf "$work"' EXIT
 
@@ -38,6 +39,19 @@ show() { # FILE
         done
     done
     echo
+}
+
+# A set with a raw trailer behind it: Consensus for both, 2 records, 96 bytes.
+filed() { # FROM TO
+    { cat "$work/$1"; bytes 0 0 0 0 0 0 2 0 0 0; head -c 32 /dev/zero; bytes 60 0 0 0 0 0 0 0; } >"$work/$2"
+}
+
+# One run on a filed group: as `step`.
+filed_step() { # FROM TO
+    "$PROGRAM_FILED" <"$work/$1" >"$work/out"
+    line=$(LC_ALL=C head -n 1 "$work/out" | tr -d '\0')
+    tail -c +$((${#line} + 2)) "$work/out" >"$work/$2"
+    printf '%s' "$line"
 }
 
 compare() { # FILE FILE WORDS
@@ -77,6 +91,15 @@ tell() {
     step six six_once >"$work/line"
     step six_once six_twice >"$work/line"
     compare twelve_once six_twice '  12 and 12, run once, against 6 and 6, run twice'
+    echo
+    echo 'The same job, filed with a trailer and sent again'
+    filed raw raw_filed
+    echo "  the raw set, filed, run once: $(filed_step raw_filed one_filed)"
+    echo "  what came out, run again: $(filed_step one_filed again)"
+    head -c 96 "$work/one_filed" >"$work/records"
+    compare records one '  its records against the set with 24'
+    head -c 48 "$work/one_filed" >"$work/torn"
+    echo "  what came out, cut off behind its first record, run again: $(filed_step torn again)"
 }
 
 tell | tee "$work/told"
