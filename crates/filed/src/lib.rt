@@ -93,16 +93,16 @@ fn write_small(
     begins: &[usize],
     n: usize,
     mate: &[usize],
+    lead: &mut [usize],
     w: Strategies,
     out: &mut [u8],
 ) -> Applied
-    requires { ⌜ Placed (now s) (now begins) n × Mated (now s) (now mate) n × (beginOf (now s) n ≤ length (now out)) × Short (now begins) n 1024 ⌝ }
+    requires { ⌜ Placed (now s) (now begins) n × Mated (now s) (now mate) n × (256 ≤ length (now lead)) × (beginOf (now s) n ≤ length (now out)) × Short (now begins) n 1024 ⌝ }
     ensures { λ r. ⌜ WrittenTo w (now (s .entry)) n (now (out .entry)) (now (out .exit)) r ⌝ }
 {
-    let mut lead = [0usize; 256];
     let mut left = [0u8; SMALL];
     let mut right = [0u8; SMALL];
-    writing::write_all(s, begins, n, mate, &mut lead, w, &mut left, &mut right, out)
+    writing::write_all(s, begins, n, mate, lead, w, &mut left, &mut right, out)
 }
 
 // The frames of a raw group of records of any length corrected into `out`, front to back.
@@ -111,19 +111,21 @@ fn write_large(
     begins: &[usize],
     n: usize,
     mate: &[usize],
+    lead: &mut [usize],
     w: Strategies,
     out: &mut [u8],
 ) -> Applied
-    requires { ⌜ Placed (now s) (now begins) n × Mated (now s) (now mate) n × (beginOf (now s) n ≤ length (now out)) ⌝ }
+    requires { ⌜ Placed (now s) (now begins) n × Mated (now s) (now mate) n × (256 ≤ length (now lead)) × (beginOf (now s) n ≤ length (now out)) ⌝ }
     ensures { λ r. ⌜ WrittenTo w (now (s .entry)) n (now (out .entry)) (now (out .exit)) r ⌝ }
 {
-    let mut lead = [0usize; 256];
     let mut left = [0u8; 65536];
     let mut right = [0u8; 65536];
-    writing::write_all(s, begins, n, mate, &mut lead, w, &mut left, &mut right, out)
+    writing::write_all(s, begins, n, mate, lead, w, &mut left, &mut right, out)
 }
 
-// The frames of a raw group corrected into `out`, front to back.
+// The frames of a raw group corrected into `out`, front to back: in the small rooms, and where a record is
+// too long for them, again in the large ones. Since it calls itself, it is compiled by itself and the rooms are
+// not taken into it: a group of small records does not hold the 128 KiB of the large ones on its stack.
 fn write_frames(
     s: &[u8],
     begins: &[usize],
@@ -131,14 +133,19 @@ fn write_frames(
     mate: &[usize],
     w: Strategies,
     out: &mut [u8],
+    large: bool,
 ) -> Applied
     requires { ⌜ Placed (now s) (now begins) n × Mated (now s) (now mate) n × (beginOf (now s) n ≤ length (now out)) ⌝ }
     ensures { λ r. ⌜ WrittenTo w (now (s .entry)) n (now (out .entry)) (now (out .exit)) r ⌝ }
 {
-    if small(begins, n) {
-        return write_small(s, begins, n, mate, w, out);
+    let mut lead = [0usize; 256];
+    if large {
+        return write_large(s, begins, n, mate, &mut lead, w, out);
     }
-    write_large(s, begins, n, mate, w, out)
+    if small(begins, n) {
+        return write_small(s, begins, n, mate, &mut lead, w, out);
+    }
+    write_frames(s, begins, n, mate, w, out, true)
 }
 
 // The trailer, made for a corrected group and put behind its frames. The frames must stand before it.
@@ -165,7 +172,7 @@ fn write_filed(
     requires { ⌜ Ended (now filed) (now begins) n × (p ≡ beginOf (now filed) n) × Mated (take p (now filed)) (now mate) n × (length (now filed) ≡ p + 50) × (length (now filed) ≤ length (now out)) ⌝ }
     ensures { λ r. ⌜ FiledTo w (now (filed .entry)) p n (now (out .entry)) (now (out .exit)) r ⌝ }
 {
-    let applied = write_frames(&filed[0..p], begins, n, mate, w, out);
+    let applied = write_frames(&filed[0..p], begins, n, mate, w, out, false);
     let growth = applied.stats;
     put_trailer(filed, p, growth, out);
     applied

@@ -13,25 +13,21 @@ slice-aggregate-write-all c = search needs
 slice-aggregate-write-all-2 : tie.Need-slice-aggregate-write-all-2
 slice-aggregate-write-all-2 c = search needs
 
-slice-aggregate-write-all-3 : tie.Need-slice-aggregate-write-all-3
-slice-aggregate-write-all-3 c = search needs
-
 write-all-requires : tie.Need-write-all-requires
-write-all-requires c κs = ((c .before .before .before .before .before .before .before .before .pre .0), (c .before .before .before .before .before .before .before .before .pre .1), search needs, short-enough (now (c .before .before .before .before .before .before .before .before .args .s)) (now (c .before .before .before .before .before .before .before .before .args .begins)) (c .before .before .before .before .before .before .before .before .args .n) (c .before .before .before .before .before .before .before .before .pre .0) _ (omega arith), short-enough (now (c .before .before .before .before .before .before .before .before .args .s)) (now (c .before .before .before .before .before .before .before .before .args .begins)) (c .before .before .before .before .before .before .before .before .args .n) (c .before .before .before .before .before .before .before .before .pre .0) _ (omega arith), (c .before .before .before .before .before .before .before .before .pre .2))
+write-all-requires c κs =
+    let entry = c .before .before .before .before .before .before .before .before .before in
+    let args = entry .args in
+    let pre = entry .pre in
+    (pre .0, pre .1, pre .2, short-enough (now (args .s)) (now (args .begins)) (args .n) (pre .0) _ (omega arith), short-enough (now (args .s)) (now (args .begins)) (args .n) (pre .0) _ (omega arith), pre .3)
 
 same-length : tie.Need-same-length
 same-length c = search needs
+
+same-length-2 : tie.Need-same-length-2
+same-length-2 c = search needs
 
 returns : tie.Need-returns
 returns c = search needs
 
 pub write-large-spec : {M : Type 1} → statement M
-write-large-spec =
-    tie.close
-    (tie.spec
-    slice-aggregate-write-all
-    slice-aggregate-write-all-2
-    slice-aggregate-write-all-3
-    write-all-requires
-    same-length
-    returns)
+write-large-spec = tie.close (tie.spec slice-aggregate-write-all slice-aggregate-write-all-2 write-all-requires same-length same-length-2 returns)
