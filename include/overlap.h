@@ -9,7 +9,8 @@
  * says whether they were corrected. Given a group that was, it says so and writes nothing, so a job that
  * is sent again does no harm. overlap_trailer_call makes the trailer of a group that is to be filed.
  *
- * Link with liboverlap_c.a (`rt staticlib overlap_c` writes target/staticlib/liboverlap_c.a).
+ * Link with liboverlap_c.a (`rt staticlib overlap_c` writes target/staticlib/liboverlap_c.a, x86-64 code; for trials on
+ * another machine `sh scripts/here.sh archive` names an archive of the same calls).
  */
 #ifndef OVERLAP_H
 #define OVERLAP_H
@@ -21,18 +22,41 @@
 extern "C" {
 #endif
 
+/* The version of this interface. It moves when the parameters of a call or one of the two sizes change,
+   so a host can refuse to be compiled with another: #if OVERLAP_VERSION != 1, #error, #endif. */
+#define OVERLAP_VERSION 1
+
+/* How many bytes the counts take, and the trailer of a filed group. */
+#define OVERLAP_COUNTS_SIZE 32
+#define OVERLAP_TRAILER_SIZE 50
+
+/* A stack that is enough for a thread that makes overlap_call or overlap_trailer_call; overlap_filed_call where
+   no record has over 1024 bytes; and overlap_filed_call on any input. Each holds what the thread takes for itself. */
+#define OVERLAP_STACK 16384
+#define OVERLAP_FILED_STACK 32768
+#define OVERLAP_FILED_LONG_STACK 163840
+
+/* What to do where the bases agree (agreement), and where they disagree (disagreement); told below. */
+#define OVERLAP_AGREE_CONSENSUS 0
+#define OVERLAP_AGREE_MAX_QUAL 1
+#define OVERLAP_AGREE_PASS_THROUGH 2
+#define OVERLAP_DISAGREE_CONSENSUS 0
+#define OVERLAP_DISAGREE_MASK_BOTH 1
+#define OVERLAP_DISAGREE_MASK_LOWER_QUAL 2
+
 /*
  * Arguments
  *
  *   first, second   Two BAM records, each from its reference id on, without the size that stands
  *                   before a record in a file.
- *   agreement       What to do where the bases agree: 0 both get the sum of the qualities, at
- *                   most 93; 1 both get the larger quality; 2 nothing.
- *   disagreement    What to do where they disagree: 0 both get the better base, with the
- *                   difference of the qualities, at least 2 (equal qualities: both become N with
- *                   2); 1 both become N with 2; 2 the one of lower quality becomes N with 2
- *                   (equal qualities: both).
- *   counts          32 bytes: four 64-bit numbers, each with its least byte first:
+ *   agreement       What to do where the bases agree, OVERLAP_AGREE_...: 0 CONSENSUS, both get the sum
+ *                   of the qualities, at most 93; 1 MAX_QUAL, both get the larger quality;
+ *                   2 PASS_THROUGH, nothing.
+ *   disagreement    What to do where they disagree, OVERLAP_DISAGREE_...: 0 CONSENSUS, both get the
+ *                   better base, with the difference of the qualities, at least 2 (equal qualities:
+ *                   both become N with 2); 1 MASK_BOTH, both become N with 2; 2 MASK_LOWER_QUAL, the
+ *                   one of lower quality becomes N with 2 (equal qualities: both).
+ *   counts          OVERLAP_COUNTS_SIZE, 32 bytes: four 64-bit numbers, each with its least byte first:
  *                     at 0 overlapping, at 8 agreeing, at 16 disagreeing, at 24 corrected.
  *                   The call adds to what stands there, so begin with 32 zero bytes. The largest
  *                   count that is accepted is 18446744073692774399.
@@ -92,8 +116,9 @@ extern "C" {
  *   that pointer. Let it be other than null there too: the callee takes a pointer and a length for
  *   a slice, as Rust does, and the pointer of a slice is not null even where the slice is empty.
  *
- *   The call allocates nothing, keeps nothing between calls and has no global state. Any number of
- *   threads may call it at the same time, as long as no two of them pass the same memory.
+ *   All three calls: each allocates nothing, keeps nothing between calls and has no global state. Any
+ *   number of threads may make any of them at the same time, as long as no memory that one of them
+ *   writes is passed to another.
  */
 uint32_t overlap_call(uint8_t *first, size_t first_len,
                       uint8_t *second, size_t second_len,
@@ -102,7 +127,8 @@ uint32_t overlap_call(uint8_t *first, size_t first_len,
 
 /*
  * A filed group: frames end to end, each a 32-bit size and then a record of that many bytes, at most
- * 256 of them; and then the trailer, 50 bytes, with the least byte of each number first:
+ * 256 of them; and then the trailer, OVERLAP_TRAILER_SIZE, 50 bytes, with the least byte of each number
+ * first:
  *
  *   offset  bytes
  *    0      4     zero, where a size would stand
@@ -150,7 +176,13 @@ uint32_t overlap_call(uint8_t *first, size_t first_len,
  * stay behind them. What no trailer can tell: corrected records under a new raw trailer are raw to
  * anyone who reads them.
  *
- * Memory: as for overlap_call, but that filed is only read. The three must not overlap.
+ * Memory and threads
+ *
+ *   As for overlap_call, but that filed is only read, so several calls may be passed the same one.
+ *
+ *   filed, out and counts must not overlap in memory: A GROUP CAN'T BE CORRECTED IN PLACE. This is not
+ *   checked; a call with out == filed answers 0 and writes wrong bytes, and their trailer says corrected,
+ *   so that no later call finds it. Assert it before the call, as hosts/c/correct.c does with apart.h.
  */
 uint32_t overlap_filed_call(const uint8_t *filed, size_t filed_len,
                             uint8_t *out, size_t out_len,
@@ -162,10 +194,13 @@ uint32_t overlap_filed_call(const uint8_t *filed, size_t filed_len,
  * 20 or 21.
  *
  *   frames    Framed records, as above, without a trailer. They are only read.
- *   trailer   At least 50 bytes. The first 50 are written, the others stay.
+ *   trailer   At least OVERLAP_TRAILER_SIZE bytes. The first 50 are written, the others stay.
  *
  * Answer: 0 made; else 1000 + 100 * place + number, and nothing is written: 10 a strategy number is not
  * 0, 1 or 2; then the frames' 12, 11 and 1 to 4, place as above; then 19, trailer_len is under 50.
+ *
+ * Memory and threads: as for overlap_call, but that frames is only read, so several calls may be passed
+ * the same ones. The two must not overlap in memory; the trailer may begin where the frames end.
  */
 uint32_t overlap_trailer_call(const uint8_t *frames, size_t frames_len,
                               uint32_t agreement, uint32_t disagreement,

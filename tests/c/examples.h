@@ -4,9 +4,10 @@
  * A read's bases and qualities beside the answer are those after the call; SAME stands for those
  * before it. The last four numbers are the growth of the counts.
  */
-enum { CONSENSUS = 0 };                          /* either strategy */
-enum { MAX_QUAL = 1, PASS_THROUGH = 2 };         /* agreement */
-enum { MASK_BOTH = 1, MASK_LOWER_QUAL = 2 };     /* disagreement */
+enum { CONSENSUS = OVERLAP_AGREE_CONSENSUS };    /* either strategy */
+enum { MAX_QUAL = OVERLAP_AGREE_MAX_QUAL, PASS_THROUGH = OVERLAP_AGREE_PASS_THROUGH };                /* agreement */
+enum { MASK_BOTH = OVERLAP_DISAGREE_MASK_BOTH, MASK_LOWER_QUAL = OVERLAP_DISAGREE_MASK_LOWER_QUAL };  /* disagreement */
+_Static_assert(OVERLAP_AGREE_CONSENSUS == OVERLAP_DISAGREE_CONSENSUS, "CONSENSUS is either strategy");
 
 struct read {
     int32_t pos;              /* counted from 0 */

@@ -162,7 +162,7 @@ static const uint64_t COUNTS[4] = {UINT64_C(5000000000), 70, UINT64_C(9000000000
 /* Counts, and an output that has just room. */
 static void lend(void)
 {
-    given.counts.len = 32;
+    given.counts.len = OVERLAP_COUNTS_SIZE;
     for (int i = 0; i < 4; i++)
         put(at(&given.counts) + 8 * i, 8, COUNTS[i]);
     given.out.len = given.filed.len;

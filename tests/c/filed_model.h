@@ -7,7 +7,7 @@ enum { MOST_RECORDS = 256, LONGEST = 65536 };
 
 /* Where the numbers of a record stand, and where those of a trailer do. */
 enum { REF_ID = 0, POS = 4, NAME_LENGTH = 8, OPERATION_COUNT = 12, FLAGS = 14, L_SEQ = 16, NAME = 32 };
-enum { STATE = 4, STRATEGIES = 5, RECORDS = 6, GROWTH = 10, DISTANCE = 42, TRAILER = 50 };
+enum { STATE = 4, STRATEGIES = 5, RECORDS = 6, GROWTH = 10, DISTANCE = 42, TRAILER = OVERLAP_TRAILER_SIZE };
 
 /* The longest group that is tried. */
 enum { ROOM = 1 << 19 };
@@ -99,7 +99,7 @@ static void register_all(const uint8_t *s, const struct cut *c, int *place)
 /* Corrects the pair of records i and j where they stand, and adds to the growth. 0, or the refusal. */
 static uint32_t correct_pair(uint8_t *s, const struct cut *c, size_t i, size_t j, unsigned strategies, uint64_t *growth)
 {
-    uint8_t counts[32] = {0};
+    uint8_t counts[OVERLAP_COUNTS_SIZE] = {0};
     uint32_t answer = overlap_call(s + c->begin[i] + 4, c->begin[i + 1] - c->begin[i] - 4,
                                    s + c->begin[j] + 4, c->begin[j + 1] - c->begin[j] - 4,
                                    strategies / 3, strategies % 3, counts, sizeof counts);
@@ -143,7 +143,7 @@ static uint32_t filed_model(const uint8_t *filed, size_t len, uint8_t *out, size
     static uint8_t copy[ROOM];
     struct cut c;
     uint64_t growth[4] = {0};
-    if (counts_len != 32)
+    if (counts_len != OVERLAP_COUNTS_SIZE)
         return REFUSED(15, 0);
     for (int i = 0; i < 4; i++)
         if (number_at(counts + 8 * i, 8) > COUNT_LIMIT)

@@ -106,11 +106,11 @@ static void build_plain(struct record *r, int32_t pos, const char *operations, u
 
 /* ---- Calls ---- */
 
-/* What a call is given, and the same after it. The bytes behind the 32 of the counts are watched too. */
+/* What a call is given, and the same after it. The bytes behind those of the counts are watched too. */
 struct call {
     struct record first, second;
     uint32_t agreement, disagreement;
-    uint8_t counts[40];
+    uint8_t counts[OVERLAP_COUNTS_SIZE + 8];
     size_t counts_len;
 };
 
@@ -127,7 +127,7 @@ static void start_call(void)
     memset(given.counts, 0xEE, sizeof given.counts);
     for (int i = 0; i < 4; i++)
         put(given.counts + 8 * i, 8, COUNTS[i]);
-    given.counts_len = 32;
+    given.counts_len = OVERLAP_COUNTS_SIZE;
 }
 
 /* Makes the call, and expects its answer. But for answer 1, every byte has to be as it was. */
@@ -179,7 +179,7 @@ static void whole_case(void)
     static struct record first, second;
     const uint64_t growth[4] = {3, 2, 1, 4};
     start_call();
-    memset(given.counts, 0, 32);
+    memset(given.counts, 0, OVERLAP_COUNTS_SIZE);
     from_hex(&given.first, "00000000 09000000 02 3C 4912 0100 4100 04000000 00000000 0A000000 05000000 6100 40000000 1248 1E1E1E1E");
     from_hex(&given.second, "00000000 0A000000 02 3C 4912 0100 8100 04000000 00000000 09000000 FBFFFFFF 6100 40000000 2411 141E0A28");
     from_hex(&first, "00000000 09000000 02 3C 4912 0100 4100 04000000 00000000 0A000000 05000000 6100 40000000 1248 1E323C14");
