@@ -8,12 +8,16 @@
 # (default ../shared/docs/src beside the repository), ARCHIVE the static library
 # (default target/staticlib/liboverlap_c.a). Plain rustc, no crates from anywhere.
 set -eu
-root=$(cd "$(dirname "$0")/.." && pwd)
-published=$(cd "${1:-$root/../shared/docs/src}" && pwd)
-archive=${2:-$root/target/staticlib/liboverlap_c.a}
-archive=$(cd "$(dirname "$archive")" && pwd)/$(basename "$archive")
+. "$(dirname "$0")/../scripts/settings.sh"
+PUBLISHED=${1:-$PUBLISHED} ARCHIVE=${2:-$ARCHIVE}
+need "$PUBLISHED/crates/fgumi-consensus/src/overlapping.rs" "naming the folder of the published Rust with PUBLISHED"
+need_rustc
+need_archive
+published=$(cd "$PUBLISHED" && pwd)
+archive=$(cd "$(dirname "$ARCHIVE")" && pwd)/$(basename "$ARCHIVE")
 out=$root/target/oracle
 mkdir -p "$out"
+take_casts "$out"
 
 compile() { # NAME SOURCE OUTPUT FLAGS...
     name=$1 source=$2 output=$3
@@ -55,7 +59,7 @@ for build in checked plain; do
     checked) flags="-C overflow-checks=on -C debug-assertions=on" ;;
     plain) flags="-C overflow-checks=off -C debug-assertions=off" ;;
     esac
-    flags="$flags -C metadata=$build"
+    flags="$flags -C metadata=$build $casts"
     for name in anyhow ahash memchr; do
         library "$folder" $name "$root/oracle/standins/$name.rs" $flags
     done

@@ -1,5 +1,5 @@
 #!/bin/sh
-# The exported call and the program against the published Rust and a model of document 01.
+# The exported call and the program against the published Rust and a model of the paper's rules.
 #
 #   scripts/differential.sh [gate|pairs|groups|full|lists] [SEED] [FOLDER]
 #
@@ -21,16 +21,19 @@ for word; do
     *) seed=$word ;;
     esac
 done
-if [ ! -f "$PUBLISHED/crates/fgumi-consensus/src/overlapping.rs" ] || ! have_rustc; then
-    echo "NOT COMPARED with the published Rust: it or rustc isn't at hand (looked in $PUBLISHED)."
+not_compared() { # WHY
+    echo "NOT COMPARED with the published Rust: $1."
     echo "The stored list of its answers stands in."
     exit 0
-fi
+}
+[ -f "$PUBLISHED/crates/fgumi-consensus/src/overlapping.rs" ] || not_compared "it isn't at hand (looked in $PUBLISHED)"
+have_rustc || not_compared "a rustc that knows edition 2024 isn't at hand; get it by: $GET_RUSTC"
 need_archive
 case $size in
 gate | pairs | groups) pairs=1000000 few=300000 groups=15000 ;;
 full) pairs=16000000 few=3000000 groups=120000 ;;
 esac
+native || groups=$((${groups:-0} / 5))     # each starts the program anew, which takes longer under the emulator
 judge=$root/target/oracle/judge
 [ "$size" = groups ] && [ -x "$judge" ] || "$root/oracle/build.sh" "$PUBLISHED" "$ARCHIVE"
 echo "seed $seed"

@@ -1,6 +1,6 @@
 #!/usr/bin/env python3
 """Writes crates/group_cases/stdin and stdout: inputs of the program `overlap`, each with what it must write.
-What must be written is worked out here from the document alone, by the plainest means; the stored
+What must be written is worked out here from the paper alone, by the plainest means; the stored
 groups of the oracle follow, with what they were answered."""
 import itertools, os, struct
 

@@ -9,6 +9,7 @@ seed=20261115
 pairs=$root/crates/replay/data/pairs.bin
 groups=$root/oracle/stored/groups.bin
 fresh=$root/target/oracle/stored
+need_tool python3
 need_archive
 [ "${1:-}" = --check ] && [ -x "$root/target/oracle/judge" ] || "$root/oracle/build.sh" "$PUBLISHED" "$ARCHIVE"
 mkdir -p "$fresh"

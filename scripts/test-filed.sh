@@ -5,6 +5,7 @@
 #   scripts/test-filed.sh
 set -eu
 . "$(dirname "$0")/settings.sh"
+need_tool python3
 need_archive
 need_program
 need_program_filed

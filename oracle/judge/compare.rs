@@ -77,7 +77,7 @@ pub fn compare(case: &Case, tally: &mut Tally) -> Result<Answer, String> {
     if got != expected {
         return Err(format!("the call and the model differ in: {}", got.differs(&expected)));
     }
-    if turn.is_multiple_of(16) && wrapped(case).is_some_and(|through| through != expected) {
+    if turn % 16 == 0 && wrapped(case).is_some_and(|through| through != expected) {
         return Err("the safe wrapper and the call differ".into());
     }
     match answer {
