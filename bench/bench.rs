@@ -3,9 +3,10 @@
 //!   bench verify                 all sides equal on every workload, under all nine strategy pairs
 //!   bench time [ROUNDS]          time a pair, the sides taking turns
 //!   bench one SIDE WORKLOAD      one pass of one side, for callgrind
+//!   bench frames WORKLOAD        its pairs, for drive.c
 //!   bench groups FOLDER          the W6 groups as files that the program reads
-//!   bench program FOLDER PATH..  the programs' output on these files against the published Rust,
-//!                                and their time for 256 records
+//!   bench equal FOLDER PATH..    the programs' output on these files against the published Rust
+//!   bench program FOLDER PATH..  the programs' time for 256 records
 //!   bench threads                the archive called from one thread and from two
 mod workloads;
 use fgumi_raw_bam::RawRecord;
@@ -14,6 +15,7 @@ use published::overlapping::{
     apply_overlapping_consensus,
 };
 use std::hint::black_box;
+use std::io::Write;
 use std::time::{Duration, Instant};
 use workloads as w;
 
@@ -212,14 +214,25 @@ fn one(side: &str, name: &str) {
     }
 }
 
+/// In the form that the program reads: two digits (agreement, disagreement), and frames.
+fn input(records: &[Vec<u8>]) -> Vec<u8> {
+    [b"00".to_vec(), w::frame(records)].concat()
+}
+fn frames(name: &str) {
+    let p = pairs_of(name);
+    let cut = |from: usize, len: usize| p.pristine[from..from + len].to_vec();
+    let records: Vec<_> = p.at.iter().flat_map(|&[a, a_len, b, b_len]| [cut(a, a_len), cut(b, b_len)]).collect();
+    std::io::stdout().write_all(&input(&records)).unwrap();
+}
+
 fn file_of(folder: &str, n: usize, i: usize) -> String {
     format!("{folder}/w6-{n}-{i}.in")
 }
 fn write_groups(folder: &str) {
-    std::fs::write(format!("{folder}/empty.in"), "00").unwrap();
+    std::fs::write(format!("{folder}/empty.in"), input(&[])).unwrap();
     for n in GROUP_SIZES {
         for (i, g) in groups_of(n).iter().enumerate() {
-            std::fs::write(file_of(folder, n, i), [b"00".to_vec(), w::frame(g)].concat()).unwrap();
+            std::fs::write(file_of(folder, n, i), input(g)).unwrap();
         }
     }
 }
@@ -241,7 +254,7 @@ fn run_time(path: &str, input: &str) -> f64 {
     children() - before
 }
 
-fn program(folder: &str, paths: &[String]) {
+fn equal(folder: &str, paths: &[String]) {
     for n in GROUP_SIZES {
         let groups = groups_of(n);
         for (i, g) in groups.iter().enumerate() {
@@ -262,7 +275,10 @@ fn program(folder: &str, paths: &[String]) {
         }
     }
     println!("# no difference in groups of 2 to 256 records: {} programs", paths.len());
-    // the whole program less a run on no records, beside the Rust in this process
+}
+
+/// The whole program less a run on no records, beside the Rust in this process.
+fn program(folder: &str, paths: &[String]) {
     let (groups, input) = (groups_of(256), file_of(folder, 256, 0));
     let mut took = vec![Vec::new(); paths.len() + 1];
     for _ in 0..200 {
@@ -325,9 +341,11 @@ fn main() {
         ["time"] => time(40),
         ["time", rounds] => time(rounds.parse().unwrap()),
         ["one", side, workload] => one(side, workload),
+        ["frames", workload] => frames(workload),
         ["groups", folder] => write_groups(folder),
+        ["equal", folder, ..] => equal(folder, &a[2..]),
         ["program", folder, ..] => program(folder, &a[2..]),
         ["threads"] => threads(),
-        _ => panic!("bench verify | time | one | groups | program | threads"),
+        _ => panic!("bench verify | time | one | frames | groups | equal | program | threads"),
     }
 }

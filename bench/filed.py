@@ -1,4 +1,4 @@
-"""filed.py OUT PROGRAM PROGRAM_FILED FILE: what a record of a filed group costs beside one of a group, by callgrind.
+"""filed.py OUT PROGRAM PROGRAM_FILED FILE: what a record of a filed group costs beside one of a group.
 FILE is the tool of hosts/c/file.c; OUT has the groups of W6."""
 import glob
 import subprocess
@@ -12,8 +12,7 @@ out, program, program_filed, tool = sys.argv[1:]
 def cost(path, data):
     with open(f"{out}/filed.in", "wb") as f:
         f.write(data)
-    with open(f"{out}/filed.in", "rb") as f:
-        return count.callgrind([path], stdin=f)[0]
+    return count.whole(out, path, f"{out}/filed.in")
 
 
 def both(name):

@@ -1,22 +1,24 @@
-"""growth.py ROOT PROGRAM: counts, ROOT/bench/growth.tsv, ROOT/docs/growth.svg, and the fitted lines."""
+"""growth.py OUT PROGRAM TABLE PICTURE: counts, the files TABLE and PICTURE, and the fitted lines."""
 import math
 import os
 import sys
 
 import count
 
-root, program = sys.argv[1:]
-out = f"{root}/target/bench"
+out, program, table, picture = sys.argv[1:]
 LENGTHS = (25, 50, 100, 150, 300, 1000, 3000, 10000, 40000)
 OPERATIONS = (1, 3, 9, 21, 41, 61, 81, 101)
 RECORDS = (2, 4, 8, 16, 32, 64, 128, 256)
 
 
+SIDES = ("ours",) if count.ALONE else ("rust", "ours")
+
+
 def pairs(prefix, sizes):
-    return {side: [(n, count.side(out, side, f"{prefix}{n}")) for n in sizes] for side in ("rust", "ours")}
+    return {side: [(n, count.side(out, side, f"{prefix}{n}")) for n in sizes] for side in SIDES}
 
 
-groups = {"rust": [(n, n * count.side(out, "rust", f"W6-{n}")) for n in RECORDS]}
+groups = {"rust": [(n, n * count.side(out, "rust", f"W6-{n}")) for n in RECORDS]} if "rust" in SIDES else {}
 if os.access(program, os.X_OK):
     groups["ours"] = [(n, n * count.program(out, program, n)) for n in RECORDS]
 # title, what n is, by powers of ten or evenly, points by side
@@ -38,7 +40,7 @@ def fit(points):
     return a, b, worst, where
 
 
-with open(f"{root}/bench/growth.tsv", "w") as f:
+with open(table, "w") as f:
     f.write("against\tn\tside\tinstructions\n")
     for _, against, _, sides in PANELS:
         for side, points in sides.items():
@@ -110,7 +112,7 @@ for i, (title, against, powers, sides) in enumerate(PANELS):
         text(at[-1][0], at[-1][1] + (20 if side == "ours" else -10), name, "end", f' fill="{color}"')
 text(16, TOP + HIGH / 2, "instructions", more=f' transform="rotate(-90 16 {TOP + HIGH / 2})"')
 width, height = LEFT + 2 * STEP + WIDE + 20, TOP + HIGH + 50
-with open(f"{root}/docs/growth.svg", "w") as f:
+with open(picture, "w") as f:
     f.write(f'<svg xmlns="http://www.w3.org/2000/svg" viewBox="0 0 {width} {height}" width="{width}" height="{height}" '
             'font-family="sans-serif" font-size="12">\n<title>Instructions against l_seq, operations and records</title>\n'
             f'<rect width="{width}" height="{height}" fill="white"/>\n' + "\n".join(svg) + "\n</svg>\n")
