@@ -1,5 +1,6 @@
 /* host.c: calls the overlap step on one read pair and prints both reads before and after. */
 #include "overlap.h"
+#include "overlap_text.h"
 #include <stdio.h>
 
 /* Two records as BAM has them, without their size fields. Both are named "a" and have one
@@ -29,17 +30,15 @@ static unsigned long long count(const uint8_t *p) {
 }
 
 int main(void) {
-    uint8_t counts[32] = { 0 };
+    uint8_t counts[OVERLAP_COUNTS_SIZE] = { 0 };
+    char text[OVERLAP_TEXT_SIZE];
     show("first  before", first);
     show("second before      ", second);
-    uint32_t answer = overlap_call(first, sizeof first, second, sizeof second, 0, 0, counts, sizeof counts);
+    uint32_t answer = overlap_call(first, sizeof first, second, sizeof second,
+                                   OVERLAP_AGREE_CONSENSUS, OVERLAP_DISAGREE_CONSENSUS, counts, sizeof counts);
     show("first  after ", first);
     show("second after       ", second);
-    if (answer > 1) {
-        printf("refused: number %u, place %u\n", answer % 100, (answer - 1000) / 100);
-        return 1;
-    }
-    printf("%s: %llu positions, %llu agreeing, %llu disagreeing, %llu corrected\n", answer ? "overlap" : "no overlap",
+    printf("%s: %llu positions, %llu agreeing, %llu disagreeing, %llu corrected\n", overlap_text(OVERLAP_OF_PAIR, answer, text),
            count(counts), count(counts + 8), count(counts + 16), count(counts + 24));
-    return 0;
+    return answer > 1;
 }

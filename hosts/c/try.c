@@ -102,7 +102,7 @@ static int try_filed(char **args) {
 }
 
 static int try_trailer(char **args) {
-    uint8_t trailer[50];
+    uint8_t trailer[OVERLAP_TRAILER_SIZE];
     Bytes *frames = bytes(args[2]);
     uint32_t answer = overlap_trailer_call(frames->at, frames->len, number(args[0]), number(args[1]), trailer, sizeof trailer);
     if (answer == 0) return fwrite(trailer, 1, sizeof trailer, stdout) == sizeof trailer ? 0 : 1;

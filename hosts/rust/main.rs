@@ -15,11 +15,12 @@ fn main() -> Result<(), Refusal> {
     show("before", &first, &second);
     let answer = call(&mut first, &mut second, Agreement::Consensus, Disagreement::Consensus, &mut counts);
     show("after ", &first, &second);
-    println!("{answer:?}, {counts:?}");
+    println!("{answer}, {counts:?}");
 
     let (mut once, mut again) = (vec![0; filed.len()], vec![0; filed.len()]);
-    let answers = [correct_filed(&filed, &mut once, &mut counts), correct_filed(&once, &mut again, &mut counts)];
-    println!("filed: {answers:?}, {counts:?}");
+    println!("filed: {}", correct_filed(&filed, &mut once, &mut counts));
+    println!("sent again: {}, {counts:?}", correct_filed(&once, &mut again, &mut counts));
+    println!("torn off: {}", correct_filed(&once[..40], &mut again, &mut counts));
     Ok(())
 }
 

@@ -3,6 +3,16 @@
 //! Nothing is checked here that the calls check themselves. What the types rule out before a call:
 //! what is written is borrowed mutably, so no two slices can overlap in memory; strategies are
 //! enums and counts are always 32 bytes, so refusals 10 and 15 can't come.
+//!
+//! So the fault that a host in C has to assert against can't be written here. One buffer in two places,
+//! as in `correct_filed(&group, &mut group, ..)` or `call(&mut record, &mut record, ..)`, doesn't compile:
+//! rustc refuses it with E0502 and E0499.
+//!
+//! Answers and refusals print as the words of docs/REFUSALS.md.
+use std::fmt;
+
+mod text;
+pub use text::{Call, text, words};
 
 /// The calls as the archive has them.
 pub mod raw {
@@ -66,7 +76,7 @@ pub struct Counts {
 /// What is wrong with a record: refusals 1 to 8.
 #[derive(Clone, Copy, Debug, PartialEq, Eq)]
 pub enum Fault {
-    Short,
+    Short = 1,
     Long,
     NameAndOperations,
     BasesAndQualities,
@@ -76,6 +86,7 @@ pub enum Fault {
     ReferenceEnd,
 }
 
+/// What the step says of a pair.
 #[derive(Clone, Copy, Debug, PartialEq, Eq)]
 pub enum Answer {
     /// Nothing was written.
@@ -130,16 +141,19 @@ pub struct Refusal {
     pub place: u32,
 }
 
+/// What the step says of a filed group.
 #[derive(Clone, Copy, Debug, PartialEq, Eq)]
 pub enum FiledAnswer {
     /// The corrected filed group stands at the start of `out` and the counts have grown.
     Corrected,
     /// The group had been corrected before; nothing was written. Its trailer has the counts.
     AlreadyDone,
+    /// Nothing was written.
     Refused(Refusal),
 }
 
-/// Corrects a raw filed group into `out`, which has to be as long.
+/// Corrects a raw filed group into `out`, which has to be as long. A group can't be corrected in place, and
+/// the borrows see to it: `filed` itself can't be lent as `out`.
 pub fn correct_filed(filed: &[u8], out: &mut [u8], counts: &mut Counts) -> FiledAnswer {
     let mut bytes = counts.to_bytes();
     // SAFETY: each pointer comes with the length of its own live borrow, exclusive where it is written.
@@ -178,6 +192,45 @@ pub fn trailer(frames: &[u8], agreement: Agreement, disagreement: Disagreement) 
     if code == 0 { Ok(trailer) } else { Err(Refusal::of(code)) }
 }
 
+impl Answer {
+    /// The number that overlap_call gave.
+    pub fn code(self) -> u32 {
+        match self {
+            Answer::NoOverlap => 0,
+            Answer::Overlap => 1,
+            Answer::CountTooLarge => 1009,
+            Answer::First(fault) => 1100 + fault as u32,
+            Answer::Second(fault) => 1200 + fault as u32,
+        }
+    }
+}
+
+impl fmt::Display for Answer {
+    fn fmt(&self, f: &mut fmt::Formatter) -> fmt::Result {
+        f.pad(&text(Call::Pair, self.code()))
+    }
+}
+
+impl fmt::Display for FiledAnswer {
+    fn fmt(&self, f: &mut fmt::Formatter) -> fmt::Result {
+        match self {
+            FiledAnswer::Corrected => f.pad(&text(Call::Filed, 0)),
+            FiledAnswer::AlreadyDone => f.pad(&text(Call::Filed, 1)),
+            FiledAnswer::Refused(refusal) => refusal.fmt(f),
+        }
+    }
+}
+
+impl fmt::Display for Refusal {
+    fn fmt(&self, f: &mut fmt::Formatter) -> fmt::Result {
+        let Refusal { number, place } = *self;
+        let found = text::refusal(Call::Filed, number, place).or_else(|| text::refusal(Call::Trailer, number, place));
+        f.pad(&found.unwrap_or_else(|| format!("number {number} at place {place} is no refusal of a group")))
+    }
+}
+
+impl std::error::Error for Refusal {}
+
 impl Refusal {
     fn of(code: u32) -> Refusal {
         Refusal { number: code % 100, place: (code - 1000) / 100 }
@@ -193,6 +246,7 @@ impl Fault {
 }
 
 impl Counts {
+    /// As the calls take them: each least byte first.
     pub fn to_bytes(self) -> [u8; 32] {
         let mut bytes = [0; 32];
         let all = [self.overlapping, self.agreeing, self.disagreeing, self.corrected];
@@ -202,6 +256,7 @@ impl Counts {
         bytes
     }
 
+    /// From the bytes that a call left.
     pub fn from_bytes(bytes: &[u8; 32]) -> Counts {
         let at = |i: usize| u64::from_le_bytes(bytes[8 * i..8 * i + 8].try_into().unwrap());
         Counts { overlapping: at(0), agreeing: at(1), disagreeing: at(2), corrected: at(3) }

@@ -1,0 +1,82 @@
+/* overlap_text.h: the answers of overlap.h in words, those of docs/REFUSALS.md. It reads answers.def; copy both. */
+#ifndef OVERLAP_TEXT_H
+#define OVERLAP_TEXT_H
+
+#include <stddef.h>
+#include <stdint.h>
+#include <stdio.h>
+
+/* The call that gave an answer; a number means one thing from one call and another from another. */
+enum overlap_of { OVERLAP_OF_PAIR = 1, OVERLAP_OF_FILED = 2, OVERLAP_OF_TRAILER = 4 };
+
+/* Room for every text, with its closing zero. */
+#define OVERLAP_TEXT_SIZE 120
+
+/* A refusal of the table: the record that its place names, the calls that answer with it, and its words. */
+enum overlap_at { OVERLAP_AT_NO_RECORD, OVERLAP_AT_RECORD, OVERLAP_AT_RECORD_256 };
+struct overlap_refusal { uint32_t number; enum overlap_at at; int calls; const char *words; };
+
+/* The refusal of this number; NULL where there is none. */
+static inline const struct overlap_refusal *overlap_refusal(uint32_t number) {
+    enum { NO_CALL = 0, PAIR = OVERLAP_OF_PAIR, FILED = OVERLAP_OF_FILED, TRAILER = OVERLAP_OF_TRAILER };
+    static const struct overlap_refusal TABLE[] = {
+#define ANSWER(call, answer, words)
+#define REFUSAL(number, at, calls, words) {number, OVERLAP_AT_##at, calls, words},
+#include "answers.def"
+#undef ANSWER
+#undef REFUSAL
+    };
+    for (size_t i = 0; i < sizeof TABLE / sizeof TABLE[0]; i++)
+        if (TABLE[i].number == number)
+            return &TABLE[i];
+    return NULL;
+}
+
+/* The words for the number of a refusal, as the programs write it in `no NUMBER PLACE`; NULL where there is none. */
+static inline const char *overlap_words(uint32_t number) {
+    const struct overlap_refusal *r = overlap_refusal(number);
+    return r ? r->words : NULL;
+}
+
+/* The words for an answer below 1000; NULL where the call has no such answer. */
+static inline const char *overlap_plain_words(enum overlap_of call, uint32_t answer) {
+#define ANSWER(of, number, words) if (call == OVERLAP_OF_##of && answer == number) return words;
+#define REFUSAL(number, at, calls, words)
+#include "answers.def"
+#undef ANSWER
+#undef REFUSAL
+    return NULL;
+}
+
+/* Whether the call answers with this refusal at this place. */
+static inline int overlap_refuses(enum overlap_of call, const struct overlap_refusal *r, uint32_t place) {
+    if (r == NULL || (r->calls & call) == 0)
+        return 0;
+    switch (r->at) {
+    case OVERLAP_AT_RECORD: return call == OVERLAP_OF_PAIR ? place == 1 || place == 2 : place < 256;
+    case OVERLAP_AT_RECORD_256: return place == 256;
+    default: return place == 0;
+    }
+}
+
+/* Writes what an answer of this call means into room, which has OVERLAP_TEXT_SIZE bytes, and returns room.
+   An answer that the call never gives gets a text that says so. */
+static inline const char *overlap_text(enum overlap_of call, uint32_t answer, char *room) {
+    const char *plain = overlap_plain_words(call, answer);
+    const struct overlap_refusal *r = answer < 1000 ? NULL : overlap_refusal(answer % 100);
+    unsigned place = answer < 1000 ? 0 : (answer - 1000) / 100;
+    const char *name = call == OVERLAP_OF_PAIR ? "overlap_call" : call == OVERLAP_OF_FILED ? "overlap_filed_call" : "overlap_trailer_call";
+    if (plain)
+        snprintf(room, OVERLAP_TEXT_SIZE, "%s", plain);
+    else if (!overlap_refuses(call, r, place))
+        snprintf(room, OVERLAP_TEXT_SIZE, "answer %u is none of %s's", (unsigned)answer, name);
+    else if (r->at == OVERLAP_AT_NO_RECORD)
+        snprintf(room, OVERLAP_TEXT_SIZE, "refused: %s (number %u)", r->words, (unsigned)r->number);
+    else if (call == OVERLAP_OF_PAIR)
+        snprintf(room, OVERLAP_TEXT_SIZE, "refused: %s (number %u, %s record)", r->words, (unsigned)r->number, place == 1 ? "first" : "second");
+    else
+        snprintf(room, OVERLAP_TEXT_SIZE, "refused: %s (number %u, record with index %u)", r->words, (unsigned)r->number, place);
+    return room;
+}
+
+#endif

@@ -1,0 +1,86 @@
+#!/usr/bin/env python3
+"""Holds the answers in words against docs/REFUSALS.md, whose headings are the words, against crates/refusal and
+against include/overlap.h.
+
+    answers.py PROGRAM...     each says answers in words, as tests/c/answers.c and tests/answers.rs do
+
+Asked are all codes of the three calls, those that a call never gives with them, and every number alone."""
+import os, re, subprocess, sys
+
+os.chdir(os.path.join(os.path.dirname(os.path.abspath(__file__)), '..'))
+faults = []
+
+
+def read(path):
+    with open(path, encoding='utf-8') as f:
+        return f.read()
+
+
+def check(holds, fault):
+    if not holds:
+        faults.append(fault)
+
+
+page = read('docs/REFUSALS.md')
+WORDS = {int(n): words for n, words in re.findall(r'(?m)^### Number (\d+): (.*)$', page)}
+PLAIN = {('pair', int(n)): words for n, words in re.findall(r'(?m)^### Answer (\d+): (.*)$', page)}
+PLAIN |= {('filed', int(n)): words for n, words in re.findall(r'(?m)^### Filed group, answer (\d+): (.*)$', page)}
+PLAIN |= {('trailer', 0): 'trailer made'}
+NAMES = {'pair': 'overlap_call', 'filed': 'overlap_filed_call', 'trailer': 'overlap_trailer_call'}
+
+
+def given():
+    """Every refusal that a call gives: call, number and place, and the words for the place."""
+    for number in range(1, 9):
+        yield 'pair', number, 1, ', first record'
+        yield 'pair', number, 2, ', second record'
+    for call, of_record, of_none in ('filed', [*range(1, 9), 11], [9, 15, 19, 20, 21]), ('trailer', [*range(1, 5), 11], [10, 19]):
+        for number in of_record:
+            yield from ((call, number, place, f', record with index {place}') for place in range(256))
+        yield call, 12, 256, ', record with index 256'
+        yield from ((call, number, 0, '') for number in of_none)
+    yield from (('pair', number, 0, '') for number in (9, 10, 15))
+
+
+def texts():
+    """What is asked, and the text that is expected."""
+    known = dict(PLAIN)
+    known |= {(call, 1000 + 100 * place + number): f'refused: {WORDS[number]} (number {number}{record})'
+              for call, number, place, record in given()}
+    for call in NAMES:
+        for code in [*range(30000), 65536, 10 ** 6, 2 ** 31, 2 ** 32 - 1]:
+            yield f'{call} {code}', known.get((call, code), f"answer {code} is none of {NAMES[call]}'s")
+    for number in range(300):
+        yield f'number {number}', WORDS.get(number, 'none')
+
+
+def check_sources():
+    table = {int(n) for n in re.findall(r'(?m)^REFUSAL\((\d+),', read('hosts/c/answers.def'))}
+    numbers = {int(n) for n in re.findall(r'Refusal::\w+(?:\(_\))? => (\d+),', read('crates/refusal/src/lib.rt').split('pub fn place')[0])}
+    check(len(numbers) > 0 and numbers == table, f'crates/refusal has {sorted(numbers)}, the table {sorted(table)}')
+    check(table == set(WORDS), f'docs/REFUSALS.md has {sorted(WORDS)}, the table {sorted(table)}')
+    rows = re.findall(r'(?m)^ \* +\d+ +((?:1[012]\d\d )+) ', read('include/overlap.h'))
+    declared = {int(code) for row in rows for code in row.split()}
+    of_pair = {1000 + 100 * place + number for call, number, place, _ in given() if call == 'pair'}
+    check(declared == of_pair, f'include/overlap.h has for a pair {sorted(declared)}, and not {sorted(of_pair)}')
+    room, = re.findall(r'#define OVERLAP_TEXT_SIZE (\d+)', read('hosts/c/overlap_text.h'))
+    longest = max(len(text) for _, text in texts())
+    check(longest < int(room), f'the longest text has {longest} bytes, and the room {room}')
+
+
+def check_program(program):
+    asked, expected = zip(*texts())
+    done = subprocess.run([program], input='\n'.join(asked) + '\n', capture_output=True, text=True)
+    said = done.stdout.split('\n')[:-1]
+    check(done.returncode == 0 and len(said) == len(asked), f'{program}: {len(said)} texts of {len(asked)}, {done.stderr}')
+    for question, text, got in zip(asked, expected, said):
+        check(text == got, f'{program}, {question}\n expected: {text}\n got:      {got}')
+    return len(said)
+
+
+check_sources()
+compared = sum(check_program(program) for program in sys.argv[1:])
+for fault in faults[:5]:
+    print(fault)
+print(f'answers in words: {len(WORDS)} refusals, {compared} texts compared, {len(faults)} faults')
+sys.exit(1 if faults or compared == 0 else 0)

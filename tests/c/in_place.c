@@ -1,0 +1,10 @@
+/* Asks hosts/c/correct.c to correct a group in place. Its assertion has to end the program. */
+#define main main_of_correct
+#include "../../hosts/c/correct.c"
+#undef main
+
+int main(void)
+{
+    static uint8_t group[OVERLAP_TRAILER_SIZE];
+    return (int)correct(group, group, sizeof group);
+}
