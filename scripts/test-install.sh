@@ -1,0 +1,44 @@
+#!/bin/sh
+# Installs into a folder of its own, and there compiles the C host as a stranger would: by pkg-config over the
+# archive, and over a shared object made of it. Elsewhere than on x86-64 the installation has to be refused.
+set -eu
+unset CDPATH
+. "$(dirname "$0")/settings.sh"
+out=$root/target/install
+rm -rf "$out"
+mkdir -p "$out/far"
+
+# The refusal, which any machine can play: one that says it is an Arm.
+printf '#!/bin/sh\necho aarch64\n' >"$out/far/uname"
+chmod +x "$out/far/uname"
+if said=$(PATH="$out/far:$PATH" sh "$root/scripts/install.sh" "$out/refused" 2>&1) || [ -e "$out/refused" ] ||
+    [ "$said" != "install.sh: the archive is x86-64 code; on this machine use scripts/here.sh archive for trials" ]; then
+    echo "on an Arm machine the installation should be refused in one line: $said"
+    exit 1
+fi
+native || { echo "the installation is refused, as the archive is x86-64 code"; exit 0; }
+
+sh "$root/scripts/install.sh" "$out/usr"
+DESTDIR=$out/staged sh "$root/scripts/install.sh" /opt/overlap
+for file in lib/liboverlap_c.a include/overlap.h share/doc/overlap/LICENSE share/doc/overlap/NOTICE; do
+    cmp "$out/usr/$file" "$out/staged/opt/overlap/$file"
+done
+grep -qx 'prefix=/opt/overlap' "$out/staged/opt/overlap/lib/pkgconfig/overlap.pc"
+
+pc=$out/usr/lib/pkgconfig
+if command -v pkg-config >/dev/null; then
+    flags=$(PKG_CONFIG_PATH=$pc pkg-config --cflags --libs overlap)
+    [ "$(PKG_CONFIG_PATH=$pc pkg-config --modversion overlap)" = "$(sed -n 's/^#define OVERLAP_VERSION //p' "$root/include/overlap.h")" ]
+else
+    echo "there is no pkg-config: overlap.pc is read by hand"
+    flags=$(sed -n -e 's/^Cflags: //p' -e 's/^Libs: //p' "$pc/overlap.pc" | sed -e "s|\${libdir}|$out/usr/lib|" -e "s|\${includedir}|$out/usr/include|")
+fi
+"$CC" -std=c11 -Wall -Wextra -Werror "$root/hosts/c/host.c" $flags -o "$out/host"
+"$out/host" | cmp - "$root/hosts/c/expected.txt"
+echo "the host compiled with the installed archive prints what is stored"
+
+(cd "$out/usr/lib" && "$CC" -shared -o liboverlap.so -Wl,-z,text -Wl,--whole-archive liboverlap_c.a -Wl,--no-whole-archive)
+"$CC" -std=c11 -I "$out/usr/include" "$root/hosts/c/host.c" -L "$out/usr/lib" -loverlap -o "$out/host-shared"
+LD_LIBRARY_PATH=$out/usr/lib "$out/host-shared" | cmp - "$root/hosts/c/expected.txt"
+if "$out/host-shared" >/dev/null 2>&1; then echo "the host doesn't use the shared object"; exit 1; fi
+echo "the host over the shared object prints what is stored"
