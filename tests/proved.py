@@ -57,7 +57,7 @@ for said, table in re.findall(r'(?m)^For .*?, (\d+) lines.*:\n\n((?:\|.*\n)+)', 
     if total != int(said):
         faults.append(f'{said} lines on the page, {total} in its table')
 
-for path in re.findall(r'`((?:tests|scripts|docs|bench|crates|include)/[\w./-]+)`', page):
+for path in re.findall(r'`((?:tests|scripts|docs|bench|crates|include|hosts)/[\w./-]+)`', page):
     checked += 1
     if not os.path.exists(path):
         faults.append(f'{path}: no such file')
