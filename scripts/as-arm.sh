@@ -3,7 +3,7 @@
 # programs run under Debian's qemu-user. It shows that the scripts go their way for Arm, that the C and the Rust compile
 # and link there, and that hosts/far works. It doesn't show the proofs, as the archive and the programs are those of
 # target/ here, nor any time: the kit's emulator is emulated in its turn, and starts a program in 4 seconds.
-#   scripts/as-arm.sh make               makes the Debian: some 8 minutes and 2 GB
+#   scripts/as-arm.sh make               makes the Debian: some 8 minutes and 1 GB
 #   scripts/as-arm.sh COMMAND [WORD..]   runs a command in it, at the repository's root: sh scripts/test-hosts.sh
 # Needs root, Debian, and Linux 6.7 or newer. What the command makes stays in ARM_ROOT/made, a folder for each clone of the
 # repository. No part of the gate.
