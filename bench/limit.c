@@ -1,9 +1,9 @@
-/* limit.c: document 01's pair call written by hand in C, in place: the anchor beside the archive.
+/* limit.c: the paper's pair call (docs/RULES.md) written by hand in C, in place: the anchor beside the archive.
  *
  *   limit_run     intersects aligned runs; plain scalar loop over a run
  *   limit_block   the same, 64 positions a step over local arrays, left to the compiler's vectorizer
  *
- * Both do all checks in document 01's order and write nothing before the last has passed.
+ * Both do all checks in the paper's order and write nothing before the last has passed.
  */
 #include <stddef.h>
 #include <stdint.h>

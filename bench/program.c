@@ -1,4 +1,4 @@
-/* program.c: the program `overlap` of document 01 written by hand over limit.c's blocks, names
+/* program.c: the program `overlap` of the paper written by hand over limit.c's blocks, names
  * hashed: the anchor beside target/bin/overlap. */
 #include "limit.c"
 #include <stdio.h>

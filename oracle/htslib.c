@@ -4,7 +4,7 @@
  *
  * Random well-formed pairs go through overlap_call. The records before and after are written as
  * two BAM files, and htslib reads both. Which base sits at which position comes from htslib's
- * pileup, bases and qualities from its readers; from these the rule of document 01 is worked out
+ * pileup, bases and qualities from its readers; from these the rule of the paper is worked out
  * and held against the bytes after the call, its answer and its counts. A second set has wrong
  * operation lengths and positions near the end: refusal 7 must come exactly where htslib calls
  * the lengths different, refusal 8 exactly where its end of the read is above 2,147,483,646.
@@ -111,7 +111,7 @@ static void sits(bam1_t *b, uint32_t *at) {
     bam_plp_destroy(plp);
 }
 
-/* ---- document 01's rule, worked out on what htslib read ---- */
+/* ---- the paper's rule, worked out on what htslib read ---- */
 
 static void rule(bam1_t *x, bam1_t *y, const uint32_t *ways, uint32_t *answer, uint64_t *grown) {
     static uint32_t in_x[SPAN], in_y[SPAN];

@@ -17,7 +17,7 @@ enum Does {
 pub struct Known {
     title: &'static str,
     pub case: Case,
-    /// What document 01 and the call answer.
+    /// What the paper and the call answer.
     answer: u32,
     with_checks: Does,
     without: Does,
@@ -109,7 +109,7 @@ pub fn run() {
     for known in accepted().into_iter().chain(refused()) {
         println!("{}\n  judge one {}", known.title, spelled(&known.case));
         let answer = check(&known.case, &mut tally).code();
-        println!("  document 01 and the call: {answer}");
+        println!("  the paper and the call: {answer}");
         assert_eq!(answer, known.answer);
         for (build, run, expected) in [
             ("with checks", published::checked::pair as PairRun, known.with_checks),

@@ -87,7 +87,7 @@ pub fn compare(case: &Case, tally: &mut Tally) -> Result<Answer, String> {
     Ok(answer)
 }
 
-/// What document 01 asks for.
+/// What the paper asks for.
 fn modelled(case: &Case) -> (Answer, After) {
     let (mut first, mut second, mut counts) = (case.first.clone(), case.second.clone(), case.counts.clone());
     let answer = model::pair(&mut first, &mut second, case.agreement, case.disagreement, &mut counts);

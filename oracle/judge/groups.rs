@@ -44,7 +44,7 @@ pub enum Judged {
         pairs: usize,
         overlapping: usize,
     },
-    /// A pair belongs to a known class; there document 01 decides.
+    /// A pair belongs to a known class; there the paper decides.
     Known,
 }
 

@@ -1,4 +1,4 @@
-//! The judge: runs the exported call, a model of document 01 and the published Rust on the same
+//! The judge: runs the exported call, a model of the paper and the published Rust on the same
 //! input and compares every answer, byte and count. oracle/README.md says how to use it.
 mod call;
 mod classes;
@@ -79,7 +79,7 @@ fn one(case: &Case) {
     };
     let (mut a, mut b, mut c) = (case.first.clone(), case.second.clone(), case.counts.clone());
     let answer = model::pair(&mut a, &mut b, case.agreement, case.disagreement, &mut c).code();
-    show("document 01", format!("{answer} counts {}", hex(&c)), &a, &b);
+    show("the paper", format!("{answer} counts {}", hex(&c)), &a, &b);
     match call::call(case, 0) {
         Ok(got) => show("the call", format!("{} counts {}", got.answer, hex(&got.counts)), &got.first, &got.second),
         Err(finding) => println!("the call             {finding}"),

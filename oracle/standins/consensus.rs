@@ -1,6 +1,6 @@
 //! Stand-ins for the parts of the crate `fgumi_consensus` that aren't published.
 
-/// ASSUMED from document 01: masked is N with quality 2.
+/// ASSUMED from the paper: masked is N with quality 2.
 pub mod phred {
     pub const MIN_PHRED: u8 = 2;
     pub const NO_CALL_BASE: u8 = b'N';
