@@ -1,7 +1,8 @@
 // Standard input and output of the programs: an input is read whole or not at all, an answer is
 // written whole, and what fails is said on standard error.
+ghost use mathlib.Core.Path.{_≡_};
 ghost use lib.ListN.{length};
-ghost use Rattle.console.specs.Input.{Within};
+ghost use Rattle.console.specs.Input.{movedOf, Within};
 
 // What became of standard input: so many bytes stand at the start of the room, up to its end or to
 // that of the input; or a read failed.
@@ -10,16 +11,23 @@ pub enum Input {
     Failed,
 }
 
-// One read of standard input into the room; 0 bytes at its end.
-fn read_some(room: &mut [u8]) -> Input
-    ensures { λ r. ⌜ Within r (length (now (room .entry))) ⌝ }
+// What a read into the room answered: below 0 it failed; else it moved so many bytes, none at the end.
+fn moved(got: isize, room: &[u8]) -> Input
+    ensures { λ r. ⌜ r ≡ movedOf got (length (now (room .entry))) ⌝ }
 {
-    let got = libc::read(libc::STDIN_FILENO, room);
     if got < 0 {
         return Input::Failed;
     }
     let n = io::count(got, room);
     Input::Whole(n)
+}
+
+// One read of standard input into the room.
+fn read_some(room: &mut [u8]) -> Input
+    ensures { λ r. ⌜ Within r (length (now (room .entry))) ⌝ }
+{
+    let got = libc::read(libc::STDIN_FILENO, room);
+    moved(got, room)
 }
 
 // Reads standard input until it ends or the room is full. A read that fails is not its end.
