@@ -7,9 +7,10 @@ set -eu
 need_program
 need_program_filed
 mkdir -p "$root/target/tests"
-native || echo "NOT RUN: input that is closed, as the emulator opens a file of its own in its place"
+native || echo "NOT RUN: input that is closed, as the emulator opens a file of its own in its place;" \
+    "and a disk that takes some bytes, as its signal need not stay ignored there"
 python3 - "$(native && echo native || echo emulated)" "$PROGRAM" "$root/example/group" "$PROGRAM_FILED" "$root/example/filed" "$root/target/tests" <<'END'
-import os, pty, resource, signal, subprocess, sys, tty
+import fcntl, os, pty, resource, signal, subprocess, sys, tty
 
 tried = 0
 
@@ -45,6 +46,14 @@ def torn_input(program, name, data, k):
     os.close(ours)
 
 
+def filled_pipe(left):
+    """A pipe of a page that has room for so many bytes more, and doesn't wait for room."""
+    read, write = os.pipe()
+    os.write(write, bytes(fcntl.fcntl(write, fcntl.F_SETPIPE_SZ, 4096) - left))
+    os.set_blocking(write, False)
+    return read, write
+
+
 def bad_output(program, name, data, line):
     unwritten = f"{name}: standard output can't be written: "
     with open('/dev/full', 'wb') as full:
@@ -52,6 +61,12 @@ def bad_output(program, name, data, line):
     same(f'{name}: output that is closed', (b'', unwritten + 'Bad file descriptor\n', 0),
          run(program, input=data, preexec_fn=lambda: os.close(1)))
     for size in (0, 1, line - 1, line, line + 1, len(data) // 2):
+        read, write = filled_pipe(size)
+        same(f'{name}: a pipe with room for {size} bytes', (None, unwritten + 'Resource temporarily unavailable\n', 0),
+             run(program, input=data, stdout=write))
+        os.close(read)
+        os.close(write)
+    for size in (0, 1, line - 1, line, line + 1, len(data) // 2) if sys.argv[1] == 'native' else ():
         with open(f'{sys.argv[6]}/limited', 'wb') as out:
             same(f'{name}: a disk that takes {size} bytes', (None, unwritten + 'File too large\n', 0),
                  run(program, input=data, stdout=out, preexec_fn=limited(size)))
