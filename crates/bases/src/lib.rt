@@ -7,6 +7,9 @@ ghost use lib.ListN.{length};
 ghost use Rattle.fields.specs.Sound.{Lies};
 ghost use Rattle.bases.specs.Written.{withBase, withSeen, SeenAt};
 
+// The code of N, a base that was not called: the last of =ACMGRSVTWYHKDBN, whose codes are 0 to 15.
+pub const N: u8 = 15;
+
 // A base's code and its quality.
 pub struct Seen {
     pub base: u8,

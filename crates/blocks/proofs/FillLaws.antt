@@ -10,6 +10,7 @@ use lib.ListN.{length, getD, set, take, drop, replicate, length-set, drop-of-len
 use lib.Seq.{getD-set-same, getD-set-other, set-getD, drop-cons, sets, getD-append-add}
 use lib.Dec.{ltb}
 use borrow.Author.Tests.{lt-ltb, le-ltb}
+use Rattle.bases.specs.Code.{N}
 use Rattle.fields.proofs.Arith.{eq-or-ne, lt-or-le}
 use Rattle.bases.specs.Base.{half}
 use Rattle.bases.proofs.BaseLaws.{half-small}
@@ -53,19 +54,19 @@ codes-small s x at r k h = rw (r k h) (half-small (k % 2) (getD s (at + k / 2) 0
 
 -- ---- N in the lanes from n on
 abbrev pub pastEnd : List ℕ
-pastEnd = replicate 32 0 ++ replicate 32 15
+pastEnd = replicate 32 0 ++ replicate 32 N
 
-past-at : (n t : ℕ) → n ≤ 32 → t < 32 → getD pastEnd (32 - n + t) 0 ≡ cond (ltb t n) 0 15
+past-at : (n t : ℕ) → n ≤ 32 → t < 32 → getD pastEnd (32 - n + t) 0 ≡ cond (ltb t n) 0 N
 past-at n t h q =
     ⊎-elim
-    (λ l. rw (lt-ltb t n l) (List·getD-append (replicate 32 0) (replicate 32 15) 0 (32 - n + t) (omega arith) ∙ getD-replicate 32 (32 - n + t) 0 0 (omega arith)))
+    (λ l. rw (lt-ltb t n l) (List·getD-append (replicate 32 0) (replicate 32 N) 0 (32 - n + t) (omega arith) ∙ getD-replicate 32 (32 - n + t) 0 0 (omega arith)))
     (λ l.
     let e : 32 - n + t ≡ 32 + (t - n) = omega arith in
     let d : t - n < 32 = omega arith in
-    rw (le-ltb t n l, e) (getD-append-add (replicate 32 0) (replicate 32 15) (t - n) 0 ∙ getD-replicate 32 (t - n) 15 0 d))
+    rw (le-ltb t n l, e) (getD-append-add (replicate 32 0) (replicate 32 N) (t - n) 0 ∙ getD-replicate 32 (t - n) N 0 d))
     (lt-or-le t n)
 
-larger-past : (b : Bool) (c : ℕ) → c < 16 → max c (cond b 0 15) ≡ cond b c 15
+larger-past : (b : Bool) (c : ℕ) → c < 16 → max c (cond b 0 N) ≡ cond b c N
 larger-past true c h = omega arith
 larger-past false c h = omega arith
 

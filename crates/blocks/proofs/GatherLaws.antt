@@ -6,6 +6,7 @@ use mathlib.Core.Bool.{cond}
 use native.Mathlib.Omega.{arith}
 use lib.ListN.{getD}
 use lib.Dec.{ltb}
+use Rattle.bases.specs.Code.{N}
 use Rattle.fields.specs.declared.Layout.{Layout}
 use Rattle.strategy.specs.declared.AgreementStrategy.{AgreementStrategy}
 use Rattle.bases.specs.Base.{baseAt}
@@ -36,8 +37,8 @@ unpacked-base a u y i t r h =
     let e2 : y .bases + i / 2 + (i % 2 + t) / 2 ≡ y .bases + (i + t) / 2 = omega arith in
     r .each (i % 2 + t) (omega arith) ∙ rw (e1, e2)
 
-masked-base : (a u : List ℕ) (y : Layout) (i n t : ℕ) → Unpacked a (y .bases + i / 2) u → t < 32 → masked u (i % 2) n t ≡ cond (ltb t n) (baseAt a y (i + t)) 15
-masked-base a u y i n t r h = ap (λ (c : ℕ). cond (ltb t n) c 15) (unpacked-base a u y i t r h)
+masked-base : (a u : List ℕ) (y : Layout) (i n t : ℕ) → Unpacked a (y .bases + i / 2) u → t < 32 → masked u (i % 2) n t ≡ cond (ltb t n) (baseAt a y (i + t)) N
+masked-base a u y i n t r h = ap (λ (c : ℕ). cond (ltb t n) c N) (unpacked-base a u y i t r h)
 
 pub gathered-as : (m : AgreementStrategy) (a b : List ℕ) (y z : Layout) (i j n : ℕ) (u v : List ℕ) (l : Lanes) → Unpacked a (y .bases + i / 2) u → Unpacked b (z .bases + j / 2) v
     → LanesOf (λ (t : ℕ). laneOf m (masked u (i % 2) n t) (getD a (y .qualities + i + t) 0) (getD v (j % 2 + t) 0) (getD b (z .qualities + j + t) 0)) l → Gathered m a b y z i j n l

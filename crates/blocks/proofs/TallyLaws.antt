@@ -9,6 +9,7 @@ use lib.ListN.{length, getD, take, drop}
 use lib.Seq.{sets, drop-cons}
 use lib.Dec.{ltb}
 use borrow.Author.Tests.{eq-eqb, ne-eqb, lt-ltb, le-ltb}
+use Rattle.bases.specs.Code.{N}
 use Rattle.fields.specs.declared.Layout.{Layout}
 use Rattle.fields.proofs.Arith.{eq-or-ne}
 use Rattle.stats.specs.declared.CorrectionStats.{CorrectionStats}
@@ -91,7 +92,7 @@ quick-lists f ka kb t (suc m) p q s hp hq gp gq =
 module _ (w : Strategies) (y z : Layout) (i j n : ℕ) (a b : List ℕ) (g : CorrectionStats) (l : Lanes)
     (got : Gathered (w .agreement) a b y z i j n l) (h : n ≤ 32) where
   f : ℕ → Lane
-  f t = laneOf (w .agreement) (cond (ltb t n) (baseAt a y (i + t)) 15) (qualityAt a y (i + t)) (baseAt b z (j + t)) (qualityAt b z (j + t))
+  f t = laneOf (w .agreement) (cond (ltb t n) (baseAt a y (i + t)) N) (qualityAt a y (i + t)) (baseAt b z (j + t)) (qualityAt b z (j + t))
 
   bits : (u : ℕ) → Bits (f u)
   unfolding f
@@ -192,7 +193,7 @@ module _ (w : Strategies) (y z : Layout) (i j n : ℕ) (a b : List ℕ) (g : Cor
       ∙ sym (tallied-is f 0 n g) in
       rw (left-is, c, ← q)
       (rw (e2, e3) at
-      (block w y z i j (λ (t : ℕ). cond (ltb t n) (baseAt a y (i + t)) 15) (λ (t : ℕ). qualityAt a y (i + t)) (λ (t : ℕ). baseAt b z (j + t)) (λ (t : ℕ). qualityAt b z (j + t)) n 0 (state a b g)
+      (block w y z i j (λ (t : ℕ). cond (ltb t n) (baseAt a y (i + t)) N) (λ (t : ℕ). qualityAt a y (i + t)) (λ (t : ℕ). baseAt b z (j + t)) (λ (t : ℕ). qualityAt b z (j + t)) n 0 (state a b g)
       (record {
         both = both;
         small₁ = λ u p. got .bytes₁ u;

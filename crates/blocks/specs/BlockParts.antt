@@ -5,6 +5,7 @@ use mathlib.Core.List.{List}
 use mathlib.Core.Bool.{cond}
 use lib.ListN.{getD, length}
 use lib.Dec.{ltb}
+use Rattle.bases.specs.Code.{N}
 use Rattle.fields.specs.declared.Layout.{Layout}
 use Rattle.strategy.specs.declared.AgreementStrategy.{AgreementStrategy}
 use Rattle.bases.specs.Base.{half, baseAt, qualityAt}
@@ -40,11 +41,11 @@ pub record Unpacked (s : List ℕ) (at : ℕ) (x : List ℕ) : Type 0 where
 
 -- x, with N from lane n on; lane 0 is at `at`
 abbrev pub masked : List ℕ → ℕ → ℕ → ℕ → ℕ
-masked x at n t = cond (ltb t n) (getD x (at + t) 0) 15
+masked x at n t = cond (ltb t n) (getD x (at + t) 0) N
 
 -- the lanes of n positions from base i of the first record a and base j of the second record b on, under the strategy m
 pub record Gathered (m : AgreementStrategy) (a b : List ℕ) (y z : Layout) (i j n : ℕ) (l : Lanes) : Type 0 where
-  pub lanes : LanesOf (λ (t : ℕ). laneOf m (cond (ltb t n) (baseAt a y (i + t)) 15) (qualityAt a y (i + t)) (baseAt b z (j + t)) (qualityAt b z (j + t))) l
+  pub lanes : LanesOf (λ (t : ℕ). laneOf m (cond (ltb t n) (baseAt a y (i + t)) N) (qualityAt a y (i + t)) (baseAt b z (j + t)) (qualityAt b z (j + t))) l
   pub bytes₁ : (k : ℕ) → getD a k 0 < 256
   pub bytes₂ : (k : ℕ) → getD b k 0 < 256
 

@@ -41,7 +41,7 @@ fn unpack(s: &[u8], at: usize) -> [u8; 34]
 }
 
 // All lanes: lane 0 has the codes x[xat] and v[vat], and its qualities at p and q of the records.
-// The lanes from n on hold N: `past` has 32 zeros and 32 times 15, and the larger of it and a code is
+// The lanes from n on hold N: `past` has 32 zeros and 32 times N, and the larger of it and a code is
 // the code below n, and N from n on.
 fn fill_lanes(
     m: AgreementStrategy,

@@ -4,7 +4,7 @@ ghost use mathlib.Core.Path.{_≡_};
 ghost use Prim.Native.Nat.{_+_, _<_, _≤_};
 ghost use lib.ListN.{length};
 ghost use Rattle.fields.specs.Number.{unsigned, put, signed32};
-ghost use Rattle.fields.specs.Flag.{hasBit};
+ghost use Rattle.fields.specs.Flag.{hasBit, unmapped, firstSegment, lastSegment, secondary, supplementary};
 ghost use Rattle.fields.specs.Placed.{placedOf, sameId};
 ghost use Rattle.fields.specs.Layout.{header, nameIn};
 ghost use Rattle.fields.specs.Check.{checkOf};
@@ -110,35 +110,35 @@ impl Flags {
 
     // Whether UNMAPPED is set.
     pub fn unmapped(self) -> bool
-        ensures { λ r. ⌜ r ≡ hasBit (self .0) 4 ⌝ }
+        ensures { λ r. ⌜ r ≡ hasBit (self .0) unmapped ⌝ }
     {
         self.0 / Self::UNMAPPED % 2 == 1
     }
 
     // Whether FIRST_SEGMENT is set.
     pub fn first_segment(self) -> bool
-        ensures { λ r. ⌜ r ≡ hasBit (self .0) 64 ⌝ }
+        ensures { λ r. ⌜ r ≡ hasBit (self .0) firstSegment ⌝ }
     {
         self.0 / Self::FIRST_SEGMENT % 2 == 1
     }
 
     // Whether LAST_SEGMENT is set.
     pub fn last_segment(self) -> bool
-        ensures { λ r. ⌜ r ≡ hasBit (self .0) 128 ⌝ }
+        ensures { λ r. ⌜ r ≡ hasBit (self .0) lastSegment ⌝ }
     {
         self.0 / Self::LAST_SEGMENT % 2 == 1
     }
 
     // Whether SECONDARY is set.
     pub fn secondary(self) -> bool
-        ensures { λ r. ⌜ r ≡ hasBit (self .0) 256 ⌝ }
+        ensures { λ r. ⌜ r ≡ hasBit (self .0) secondary ⌝ }
     {
         self.0 / Self::SECONDARY % 2 == 1
     }
 
     // Whether SUPPLEMENTARY is set.
     pub fn supplementary(self) -> bool
-        ensures { λ r. ⌜ r ≡ hasBit (self .0) 2048 ⌝ }
+        ensures { λ r. ⌜ r ≡ hasBit (self .0) supplementary ⌝ }
     {
         self.0 / Self::SUPPLEMENTARY % 2 == 1
     }

@@ -7,7 +7,7 @@ use Rattle.fields.specs.declared.Layout.{Layout}
 use Rattle.cigar.specs.declared.Extent.{Extent}
 use Rattle.fields.specs.declared.Placed.{Placed}
 use Rattle.fields.specs.declared.Placed.the-variants.{At, Unplaced}
-use Rattle.fields.specs.Flag.{hasBit}
+use Rattle.fields.specs.Flag.{hasBit, unmapped}
 use Rattle.fields.specs.Layout.{header}
 use Rattle.fields.specs.Placed.{placedOf, sameId}
 use Rattle.refusal.specs.declared.Refusal.{Refusal}
@@ -37,16 +37,16 @@ span-as y s pos place o o′ e f = ap (λ (x : Operations). onUses x (λ n. span
 
 -- where two records lie, by the headers
 module _ (a b : List ℕ) where
-  pub first-unmapped : hasBit (header a .flags) 4 ≡ true → Apart ≡ whereOf a b
+  pub first-unmapped : hasBit (header a .flags) unmapped ≡ true → Apart ≡ whereOf a b
   unfolding whereOf
   first-unmapped e = rw e
 
-  module _ (mapped₁ : hasBit (header a .flags) 4 ≡ false) where
-    pub second-unmapped : hasBit (header b .flags) 4 ≡ true → Apart ≡ whereOf a b
+  module _ (mapped₁ : hasBit (header a .flags) unmapped ≡ false) where
+    pub second-unmapped : hasBit (header b .flags) unmapped ≡ true → Apart ≡ whereOf a b
     unfolding whereOf
     second-unmapped e = rw (mapped₁, e)
 
-    module _ (mapped₂ : hasBit (header b .flags) 4 ≡ false) where
+    module _ (mapped₂ : hasBit (header b .flags) unmapped ≡ false) where
       pub ids-differ : sameId (header a .refId) (header b .refId) ≡ false → Apart ≡ whereOf a b
       unfolding whereOf
       ids-differ e = rw (mapped₁, mapped₂, e)
@@ -69,7 +69,7 @@ module _ (a b : List ℕ) where
 module _ (y z : Layout) (a b : List ℕ) (i j : ℕ) where
   pub where-judged : onWhere (whereOf a b) (λ p q. onSpan (spanIn y a p i) (λ s. onSpan (spanIn z b q j) (λ t. Judge.Both s t))) ≡ judgedOf y z a b i j
   unfolding whereOf judgedOf mappedOf
-  where-judged = go (hasBit (header a .flags) 4 || hasBit (header b .flags) 4) (sameId (header a .refId) (header b .refId)) (placedOf (header a .pos)) (placedOf (header b .pos))
+  where-judged = go (hasBit (header a .flags) unmapped || hasBit (header b .flags) unmapped) (sameId (header a .refId) (header b .refId)) (placedOf (header a .pos)) (placedOf (header b .pos))
     where
       go : (t u : Bool) (k l : Placed)
           → onWhere (cond t Apart (cond u (bothAt k l) Apart)) (λ p q. onSpan (spanIn y a p i) (λ s. onSpan (spanIn z b q j) (λ t. Judge.Both s t)))

@@ -13,7 +13,7 @@ use Rattle.fields.specs.declared.Layout.{Layout}
 use Rattle.fields.specs.declared.RefPos.{RefPos}
 use Rattle.fields.specs.declared.Placed.{Placed}
 use Rattle.fields.specs.declared.Placed.the-variants.{At, Unplaced}
-use Rattle.fields.specs.Flag.{hasBit}
+use Rattle.fields.specs.Flag.{hasBit, unmapped}
 use Rattle.fields.specs.Layout.{header}
 use Rattle.fields.specs.Placed.{placedOf, sameId}
 use Rattle.fields.specs.Sound.{Lies, Sound}
@@ -80,8 +80,8 @@ spanned-walked y s pos p h g c =
 
 -- ---- both records
 pub record Known (y z : Layout) (a b : List ℕ) (p q : Extent) : Type 0 where
-  pub mapped₁ : hasBit (header a .flags) 4 ≡ false
-  pub mapped₂ : hasBit (header b .flags) 4 ≡ false
+  pub mapped₁ : hasBit (header a .flags) unmapped ≡ false
+  pub mapped₂ : hasBit (header b .flags) unmapped ≡ false
   pub reference : sameId (header a .refId) (header b .refId) ≡ true
   pub pos₁ : ℕ
   pub pos₂ : ℕ
@@ -93,7 +93,7 @@ pub record Known (y z : Layout) (a b : List ℕ) (p q : Extent) : Type 0 where
 pub both-known : (y z : Layout) (a b : List ℕ) (i j : ℕ) (p q : Extent) → judgedOf y z a b i j ≡ Judge.Both p q → Known y z a b p q
 unfolding judgedOf mappedOf
 both-known y z a b i j p q e =
-    let m = on-neither (hasBit (header a .flags) 4) (hasBit (header b .flags) 4) _ p q e in
+    let m = on-neither (hasBit (header a .flags) unmapped) (hasBit (header b .flags) unmapped) _ p q e in
     let r = on-true (sameId (header a .refId) (header b .refId)) _ p q (m .2) in
     let n₁ = on-placed (placedOf (header a .pos)) _ p q (r .1) in
     let n₂ = on-placed (placedOf (header b .pos)) _ p q (n₁ .1 .1) in

@@ -5,7 +5,7 @@ use mathlib.Core.Bool.{cond, _||_}
 use Rattle.fields.specs.declared.Layout.{Layout}
 use Rattle.fields.specs.declared.Placed.{Placed}
 use Rattle.fields.specs.declared.Placed.the-variants.{At, Unplaced}
-use Rattle.fields.specs.Flag.{hasBit}
+use Rattle.fields.specs.Flag.{hasBit, unmapped}
 use Rattle.fields.specs.Layout.{header}
 use Rattle.fields.specs.Placed.{placedOf, sameId}
 use Rattle.cigar.specs.declared.Operations.{Operations}
@@ -44,4 +44,4 @@ mappedOf y z a b i j =
 
 -- step 4: either unmapped
 unfoldable pub judgedOf : Layout → Layout → List ℕ → List ℕ → ℕ → ℕ → Judged
-judgedOf y z a b i j = cond (hasBit (header a .flags) 4 || hasBit (header b .flags) 4) Judge.Apart (mappedOf y z a b i j)
+judgedOf y z a b i j = cond (hasBit (header a .flags) unmapped || hasBit (header b .flags) unmapped) Judge.Apart (mappedOf y z a b i j)

@@ -4,7 +4,7 @@ use mathlib.Core.List.{List}
 use mathlib.Core.Bool.{cond, _||_}
 use Rattle.fields.specs.declared.Placed.{Placed}
 use Rattle.fields.specs.declared.Placed.the-variants as Places
-use Rattle.fields.specs.Flag.{hasBit}
+use Rattle.fields.specs.Flag.{hasBit, unmapped}
 use Rattle.fields.specs.Layout.{header}
 use Rattle.fields.specs.Placed.{placedOf, sameId}
 use Rattle.judgement.specs.declared.Judged.{Judged}
@@ -21,7 +21,7 @@ bothAt Places.Unplaced y = Apart
 -- neither unmapped, both on one reference, both with a position
 unfoldable pub whereOf : List ℕ → List ℕ → Where
 whereOf a b =
-    cond (hasBit (header a .flags) 4 || hasBit (header b .flags) 4) Apart
+    cond (hasBit (header a .flags) unmapped || hasBit (header b .flags) unmapped) Apart
     (cond (sameId (header a .refId) (header b .refId)) (bothAt (placedOf (header a .pos)) (placedOf (header b .pos))) Apart)
 
 -- what goes on where both lie on one reference

@@ -5,6 +5,7 @@ use mathlib.Core.Bool.{Bool, true, false, cond, _&&_}
 use native.Mathlib.Omega.{arith}
 use lib.Dec.{eqb}
 use borrow.Author.Tests.{eqb-true, eqb-false, eq-eqb, ne-eqb}
+use Rattle.bases.specs.Code.{N}
 use Rattle.stats.specs.Counts.{counts}
 use Rattle.strategy.specs.declared.AgreementStrategy.{AgreementStrategy}
 use Rattle.strategy.specs.declared.Strategies.{Strategies}
@@ -25,15 +26,15 @@ lane-as m x a y b e r c p₁ p₂ n d ee er ec e₁ e₂ en ed = rw (e₁, e₂,
 
 -- ---- the rule
 -- two equal called bases
-pub agreed-rule : (w : Strategies) (x a y b : ℕ) (r : Qualities) → x ≡ y → (x ≡ 15 → ⊥) → r ≡ agreedOf (w .agreement) a b
+pub agreed-rule : (w : Strategies) (x a y b : ℕ) (r : Qualities) → x ≡ y → (x ≡ N → ⊥) → r ≡ agreedOf (w .agreement) a b
     → treated w x a y b ≡ out x (r .qual1) y (r .qual2) (counts 1 1 0 (changedOf a b (r .qual1) (r .qual2)))
 unfolding treated
-agreed-rule w x a y b r exy n er = rw (← exy, ne-eqb x 15 n, eq-eqb x x refl, er)
+agreed-rule w x a y b r exy n er = rw (← exy, ne-eqb x N n, eq-eqb x x refl, er)
 
 -- an N in the first record
-pub blank-rule : (w : Strategies) (x a y b : ℕ) → x ≡ 15 → treated w x a y b ≡ out x a y b (counts 0 0 0 0)
+pub blank-rule : (w : Strategies) (x a y b : ℕ) → x ≡ N → treated w x a y b ≡ out x a y b (counts 0 0 0 0)
 unfolding treated
-blank-rule w x a y b e = rw (eq-eqb x 15 e)
+blank-rule w x a y b e = rw (eq-eqb x N e)
 
 -- base x with the lane's first quality, base y with its second, and the counts of an agreement
 abbrev pub laneOut : ℕ → ℕ → Lane → Treated
@@ -42,7 +43,7 @@ laneOut x y l = out x (l .qual1) y (l .qual2) (counts (l .agrees) (l .agrees) 0 
 -- where the bases do not differ, a lane is what the rule says
 pub lane-rule : (w : Strategies) (x a y b : ℕ) → laneOf (w .agreement) x a y b .differs ≡ 0 → treated w x a y b ≡ laneOut x y (laneOf (w .agreement) x a y b)
 unfolding laneOf treated
-lane-rule w x a y b = go (eqb x 15) (eqb y 15) (eqb x y) refl refl refl
+lane-rule w x a y b = go (eqb x N) (eqb y N) (eqb x y) refl refl refl
   where
     p : ℕ
     p = agreedQual (w .agreement) a b
@@ -50,9 +51,9 @@ lane-rule w x a y b = go (eqb x 15) (eqb y 15) (eqb x y) refl refl refl
     q : ℕ
     q = agreedQual (w .agreement) b a
 
-    go : (s t r : Bool) → eqb x 15 ≡ s → eqb y 15 ≡ t → eqb x y ≡ r → laneOf (w .agreement) x a y b .differs ≡ 0 → treated w x a y b ≡ laneOut x y (laneOf (w .agreement) x a y b)
+    go : (s t r : Bool) → eqb x N ≡ s → eqb y N ≡ t → eqb x y ≡ r → laneOf (w .agreement) x a y b .differs ≡ 0 → treated w x a y b ≡ laneOut x y (laneOf (w .agreement) x a y b)
     go true t r e f g h = simp e
-    go false true true e f g h = absurd (eqb-false x 15 e (eqb-true x y g ∙ eqb-true y 15 f))
+    go false true true e f g h = absurd (eqb-false x N e (eqb-true x y g ∙ eqb-true y N f))
     go false true false e f g h = simp (e, f, g)
     go false false true e f g h = simp (e, f, g) (ap (λ (u : ℕ). out x p u q (counts 1 1 0 (changedOf a b p q))) (eqb-true x y g))
     go false false false e f g h = let z : _≡_ {A = ℕ} 1 0 = simp (e, f, g) at h in absurd (omega arith)
@@ -67,9 +68,9 @@ pub record Left (p q : ℕ) (l : Lane) : Type 0 where
 
 pub lane-left : (m : AgreementStrategy) (x a y b : ℕ) → (laneOf m x a y b .differs ≡ 0 → ⊥) → Left a b (laneOf m x a y b)
 unfolding laneOf
-lane-left m x a y b = go (eqb x 15) (eqb y 15) (eqb x y) refl refl refl
+lane-left m x a y b = go (eqb x N) (eqb y N) (eqb x y) refl refl refl
   where
-    go : (s t r : Bool) → eqb x 15 ≡ s → eqb y 15 ≡ t → eqb x y ≡ r → (laneOf m x a y b .differs ≡ 0 → ⊥) → Left a b (laneOf m x a y b)
+    go : (s t r : Bool) → eqb x N ≡ s → eqb y N ≡ t → eqb x y ≡ r → (laneOf m x a y b .differs ≡ 0 → ⊥) → Left a b (laneOf m x a y b)
     go true t r e f g h = absurd (h (simp e))
     go false true r e f g h = absurd (h (simp (e, f)))
     go false false true e f g h = absurd (h (simp (e, f, g)))
@@ -84,7 +85,7 @@ pub record Blank (p q : ℕ) (l : Lane) : Type 0 where
   pub agrees : l .agrees ≡ 0
   pub corrected : l .corrected ≡ 0
 
-pub lane-blank : (m : AgreementStrategy) (a y b : ℕ) → Blank a b (laneOf m 15 a y b)
+pub lane-blank : (m : AgreementStrategy) (a y b : ℕ) → Blank a b (laneOf m N a y b)
 unfolding laneOf
 lane-blank m a y b = record { qual1 = refl; qual2 = refl; differs = refl; agrees = refl; corrected = refl }
 
@@ -99,11 +100,11 @@ bit-low false = omega arith
 
 pub lane-bits : (m : AgreementStrategy) (x a y b : ℕ) → Bits (laneOf m x a y b)
 unfolding laneOf
-lane-bits m x a y b = go (eqb x 15) (eqb y 15) (eqb x y) refl refl refl
+lane-bits m x a y b = go (eqb x N) (eqb y N) (eqb x y) refl refl refl
   where
-    go : (s t r : Bool) → eqb x 15 ≡ s → eqb y 15 ≡ t → eqb x y ≡ r → Bits (laneOf m x a y b)
+    go : (s t r : Bool) → eqb x N ≡ s → eqb y N ≡ t → eqb x y ≡ r → Bits (laneOf m x a y b)
     go true t r e f g = record { one = simp e (omega arith); corrected = simp e (omega arith) }
-    go false true true e f g = absurd (eqb-false x 15 e (eqb-true x y g ∙ eqb-true y 15 f))
+    go false true true e f g = absurd (eqb-false x N e (eqb-true x y g ∙ eqb-true y N f))
     go false true false e f g = record { one = simp (e, f, g) (omega arith); corrected = simp (e, g) (omega arith) }
     go false false false e f g = record { one = simp (e, f, g) (omega arith); corrected = simp (e, g) (omega arith) }
     go false false true e f g = record { one = simp (e, f, g) (omega arith); corrected = simp (e, g) (bit-low (eqb a (agreedQual m a b) && eqb b (agreedQual m b a))) }

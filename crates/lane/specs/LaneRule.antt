@@ -2,18 +2,19 @@
 use Prim.Native.Nat.{ℕ}
 use mathlib.Core.Bool.{cond, _&&_}
 use lib.Dec.{eqb}
+use Rattle.bases.specs.Code.{N}
 use Rattle.strategy.specs.declared.AgreementStrategy.{AgreementStrategy}
 use Rattle.strategy.specs.Rule.{agreedQual}
 use Rattle.lane.specs.declared.Qualities.{Qualities}
 use Rattle.lane.specs.declared.Lane.{Lane}
 
--- 1 where both bases are called and equal; N is 15
+-- 1 where both bases are called and equal
 abbrev pub agreesOf : ℕ → ℕ → ℕ
-agreesOf x y = cond (eqb x 15) 0 (cond (eqb x y) 1 0)
+agreesOf x y = cond (eqb x N) 0 (cond (eqb x y) 1 0)
 
 -- 1 where both bases are called and differ
 abbrev pub differsOf : ℕ → ℕ → ℕ
-differsOf x y = cond (eqb x 15) 0 (cond (eqb y 15) 0 (cond (eqb x y) 0 1))
+differsOf x y = cond (eqb x N) 0 (cond (eqb y N) 0 (cond (eqb x y) 0 1))
 
 abbrev pub chosen : ℕ → ℕ → ℕ → ℕ
 chosen e q p = cond (eqb e 0) p q

@@ -1,5 +1,6 @@
 // One lane of a block: what becomes of the two qualities of a shared position. Every answer is
 // chosen by value, so that a loop over lanes has no branch and is done many lanes at a time.
+use bases::N;
 use stats::CorrectionStats;
 use strategy::AgreementStrategy;
 ghost use mathlib.Core.Path.{_≡_};
@@ -93,11 +94,11 @@ pub fn agreements(agreeing: u64, corrected: u64) -> CorrectionStats
     }
 }
 
-// 1 if both bases are called and equal. Code 15 is N.
+// 1 if both bases are called and equal.
 fn agrees(x: u8, y: u8) -> u8
     ensures { λ r. ⌜ r ≡ agreesOf x y ⌝ }
 {
-    if x == 15 {
+    if x == N {
         return 0;
     }
     if x == y { 1 } else { 0 }
@@ -107,10 +108,10 @@ fn agrees(x: u8, y: u8) -> u8
 fn differs(x: u8, y: u8) -> u8
     ensures { λ r. ⌜ r ≡ differsOf x y ⌝ }
 {
-    if x == 15 {
+    if x == N {
         return 0;
     }
-    if y == 15 {
+    if y == N {
         return 0;
     }
     if x == y { 0 } else { 1 }

@@ -7,7 +7,7 @@ use native.Mathlib.Numerals.{add-one}
 use native.Mathlib.Omega.{arith}
 use borrow.Author.Tests.{eqb-true, eq-eqb, ne-eqb}
 use lib.Dec.{eqb}
-use Rattle.fields.specs.Flag.{hasBit}
+use Rattle.fields.specs.Flag.{hasBit, firstSegment, lastSegment, secondary, supplementary}
 use Rattle.fields.specs.Layout.{header, nameIn}
 use Rattle.mates.specs.Register.{placeBy, placeIn, nameAt, fits, holder, mateOf}
 use Rattle.mates.specs.Table.{keyIn}
@@ -23,8 +23,8 @@ pub place-small : (r : List ℕ) → placeIn r < 3
 unfolding placeIn placeBy
 place-small r =
     let f = header r .flags in
-    cond-small (hasBit f 256 || hasBit f 2048) 0 _ (omega arith)
-    (cond-small (hasBit f 64) 1 _ (omega arith) (cond-small (hasBit f 128) 2 0 (omega arith) (omega arith)))
+    cond-small (hasBit f secondary || hasBit f supplementary) 0 _ (omega arith)
+    (cond-small (hasBit f firstSegment) 1 _ (omega arith) (cond-small (hasBit f lastSegment) 2 0 (omega arith) (omega arith)))
 
 module _ (x y : List ℕ) (kx ky q : ℕ) (ex : kx ≡ keyIn x) (ey : ky ≡ keyIn y) (small : q < 4) where
   -- other keys: another place or another name

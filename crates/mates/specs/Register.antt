@@ -3,14 +3,14 @@ use Prim.Native.Nat.{ℕ, zero, suc}
 use mathlib.Core.Bool.{Bool, cond, _&&_, _||_}
 use mathlib.Core.List.{List, [], _∷_}
 use lib.Dec.{eqb}
-use Rattle.fields.specs.Flag.{hasBit}
+use Rattle.fields.specs.Flag.{hasBit, firstSegment, lastSegment, secondary, supplementary}
 use Rattle.fields.specs.Layout.{header, nameIn}
 use Rattle.frames.specs.Frame.{recordOf}
 use Rattle.names.specs.Same.{sameBytes}
 
--- the place that flags register: none (0) with 256 or 2048; with 64 first (1), even if 128 is set; else with 128 last (2); else none
+-- the place that flags register: none (0) where secondary or supplementary is set; first (1) with that flag, even if last is set; else last (2); else none
 unfoldable pub placeBy : ℕ → ℕ
-placeBy f = cond (hasBit f 256 || hasBit f 2048) 0 (cond (hasBit f 64) 1 (cond (hasBit f 128) 2 0))
+placeBy f = cond (hasBit f secondary || hasBit f supplementary) 0 (cond (hasBit f firstSegment) 1 (cond (hasBit f lastSegment) 2 0))
 
 unfoldable pub placeIn : List ℕ → ℕ
 placeIn r = placeBy (header r .flags)

@@ -2,6 +2,7 @@
 use Prim.Native.Nat.{ℕ, _+_, _*_}
 use mathlib.Core.Path.{_≡_}
 use mathlib.Core.List.{List, [], _∷_}
+use Rattle.bases.specs.Code.{code, N}
 use Rattle.stats.specs.Counts.{counts}
 use Rattle.strategy.specs.declared.AgreementStrategy.the-variants as Agree
 use Rattle.strategy.specs.declared.DisagreementStrategy.the-variants as Differ
@@ -11,15 +12,11 @@ use Rattle.cigar.specs.Operation.{readSum, refSum}
 use Rattle.cigar.specs.Found.{baseOn}
 use Rattle.merge.specs.Shared.{pairs}
 
--- base codes
 abbrev pub baseA : ℕ
-baseA = 1
+baseA = code "A"
 
 abbrev pub baseT : ℕ
-baseT = 8
-
-abbrev pub baseN : ℕ
-baseN = 15
+baseT = code "T"
 
 abbrev pub consensus : Strategies
 consensus = record { agreement = Agree.Consensus; disagreement = Differ.Consensus }
@@ -55,10 +52,10 @@ Examples =
     -- disagree, Consensus
     × (treated consensus baseT 30 baseA 10 ≡ out baseT 20 baseT 20 (counts 1 0 1 2))
     × (treated consensus baseT 31 baseA 30 ≡ out baseT 2 baseT 2 (counts 1 0 1 2))
-    × (treated consensus baseT 30 baseA 30 ≡ out baseN 2 baseN 2 (counts 1 0 1 2))
+    × (treated consensus baseT 30 baseA 30 ≡ out N 2 N 2 (counts 1 0 1 2))
     × (treated consensus baseT 255 baseA 30 ≡ out baseT 225 baseT 225 (counts 1 0 1 2))
     -- MaskLowerQual
-    × (treated maskLower baseT 10 baseA 30 ≡ out baseN 2 baseA 30 (counts 1 0 1 1))
+    × (treated maskLower baseT 10 baseA 30 ≡ out N 2 baseA 30 (counts 1 0 1 1))
     -- places
     × (sharedBy (opS 2 ∷ opM 3 ∷ opD 1 ∷ opM 2 ∷ []) 10 (opM 2 ∷ opI 1 ∷ opM 3 ∷ []) 12 ≡ (4, 0) ∷ (5, 3) ∷ (6, 4) ∷ [])
     × (sharedBy (opM 4 ∷ []) 10 (opM 1 ∷ []) 13 ≡ (3, 0) ∷ [])

@@ -8,7 +8,7 @@ use lib.IntN.{pos}
 use Rattle.refusal.specs.declared.Refusal.{Refusal}
 use Rattle.fields.specs.declared.RefPos.{RefPos}
 use Rattle.fields.specs.declared.ReadOffset.{ReadOffset}
-use Rattle.fields.specs.Flag.{hasBit}
+use Rattle.fields.specs.Flag.{hasBit, unmapped}
 use Rattle.fields.specs.Layout.{header, layoutOf}
 use Rattle.strategy.specs.declared.Strategies.{Strategies}
 use Rattle.positions.specs.Step.{State, job}
@@ -22,8 +22,8 @@ NotRefused o = (r : Refusal) → o .answer ≡ Answers.Refused r → ⊥
 
 -- both records are mapped, on one reference id, and their positions are not negative
 pub record Aligned (a b : List ℕ) : Type 0 where
-  pub mapped₁ : hasBit (header a .flags) 4 ≡ false
-  pub mapped₂ : hasBit (header b .flags) 4 ≡ false
+  pub mapped₁ : hasBit (header a .flags) unmapped ≡ false
+  pub mapped₂ : hasBit (header b .flags) unmapped ≡ false
   pub reference : header a .refId ≡ header b .refId
   pub pos₁ : ℕ
   pub pos₂ : ℕ

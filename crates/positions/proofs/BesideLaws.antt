@@ -7,6 +7,7 @@ use native.Mathlib.Omega.{arith}
 use lib.Dec.{eqb}
 use lib.ListN.{getD, set}
 use lib.Seq.{set-getD}
+use Rattle.bases.specs.Code.{N}
 use Rattle.fields.specs.declared.Layout.{Layout}
 use Rattle.stats.specs.declared.CorrectionStats.{CorrectionStats}
 use Rattle.stats.specs.Counts.{counts, plus}
@@ -37,7 +38,7 @@ module _ (w : Strategies) (y z : Layout) where
     unfolding step
     step-qualities p q e c r = sym (ap (wrote (job w y z) (state a b g) i j) r ∙ rw (put-own a y i p ha, put-own b z j q hb))
 
-    step-none : baseAt a y i ≡ 15 → state a b g ≡ step (job w y z) (state a b g) i j
+    step-none : baseAt a y i ≡ N → state a b g ≡ step (job w y z) (state a b g) i j
     step-none e =
         rw (set-getD a (y .qualities + i) 0, set-getD b (z .qualities + j) 0, plus-zero g) at
         (step-qualities (qualityAt a y i) (qualityAt b z j) 0 0 (blank-rule w (baseAt a y i) (qualityAt a y i) (baseAt b z j) (qualityAt b z j) e))
@@ -71,7 +72,7 @@ module _ (w : Strategies) (y z : Layout) where
       byte₂ : getD b (z .bases + (j + t) / 2) 0 < 256
       byte₂ = inv .small₂ (z .bases + (j + t) / 2) (omega (arith, both .second .bases))
 
-      pub adding-none : baseAt a y (i + t) ≡ 15 → Adding i j n s₀ (t + 1) a b h e c
+      pub adding-none : baseAt a y (i + t) ≡ N → Adding i j n s₀ (t + 1) a b h e c
       adding-none x =
           record {
             run = running-turn (job w y z) i j n t s₀ (state a b (beside h e c)) (state a b (beside h e c)) low (inv .run) (step-none a b (beside h e c) (i + t) (j + t) byte₁ byte₂ x);
@@ -81,7 +82,7 @@ module _ (w : Strategies) (y z : Layout) where
             fewer = omega (arith, inv .fewer);
           }
 
-      pub adding-agreed : (r : Qualities) (v : ℕ) → baseAt a y (i + t) ≡ baseAt b z (j + t) → (baseAt a y (i + t) ≡ 15 → ⊥)
+      pub adding-agreed : (r : Qualities) (v : ℕ) → baseAt a y (i + t) ≡ baseAt b z (j + t) → (baseAt a y (i + t) ≡ N → ⊥)
           → r ≡ agreedOf (w .agreement) (qualityAt a y (i + t)) (qualityAt b z (j + t)) → v ≡ changedOf (qualityAt a y (i + t)) (qualityAt b z (j + t)) (r .qual1) (r .qual2)
           → Adding i j n s₀ (t + 1) (set a (y .qualities + (i + t)) (r .qual1)) (set b (z .qualities + (j + t)) (r .qual2)) h (e + 1) (c + v)
       adding-agreed r v eb nb er ev =

@@ -62,7 +62,7 @@ pub fn treat_row(
         let q = ReadOffset(j.0 + t);
         let a = bases::get(first, y, p);
         let b = bases::get(second, z, q);
-        if a.base == 15 {
+        if a.base == bases::N {
             t += 1;
         } else if a.base == b.base {
             let r = lane::agreed(m, a.quality, b.quality);

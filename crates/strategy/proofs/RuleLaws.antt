@@ -5,6 +5,7 @@ use mathlib.Core.Bool.{Bool, true, false, cond, _&&_, _||_}
 use native.Mathlib.Omega.{arith}
 use lib.Dec.{eqb, ltb, leb}
 use borrow.Author.Tests.{lt-ltb, le-ltb, le-leb, lt-leb, eq-eqb, ne-eqb}
+use Rattle.bases.specs.Code.{N}
 use Rattle.stats.specs.declared.CorrectionStats.{CorrectionStats}
 use Rattle.stats.specs.Counts.{counts, zeroed}
 use Rattle.stats.specs.Room.{AtMost}
@@ -41,24 +42,24 @@ module _ (k : DisagreementStrategy) (x a y b : ℕ) where
       let q′ : max (a - b) 2 ≡ max ((b - a) + (a - b)) 2 = omega arith in
       rw (e, n, n′, l, l′) (ap₂ (λ (s t : ℕ). differedTo x s x t 2) q q′)
 
-  pub call-none : k ≡ Differ.Consensus → a ≤ b → b ≤ a → differedTo 15 2 15 2 2 ≡ differed k x a y b
+  pub call-none : k ≡ Differ.Consensus → a ≤ b → b ≤ a → differedTo N 2 N 2 2 ≡ differed k x a y b
   call-none e h h′ =
       let n : eqb a b ≡ true = eq-eqb a b (omega arith) in
       let n′ : eqb b a ≡ true = eq-eqb b a (omega arith) in
       let q : 2 ≡ max ((a - b) + (b - a)) 2 = omega arith in
       let q′ : 2 ≡ max ((b - a) + (a - b)) 2 = omega arith in
-      rw (e, n, n′) (ap₂ (λ (s t : ℕ). differedTo 15 s 15 t 2) q q′)
+      rw (e, n, n′) (ap₂ (λ (s t : ℕ). differedTo N s N t 2) q q′)
 
-  pub mask-both : k ≡ Differ.MaskBoth → differedTo 15 2 15 2 2 ≡ differed k x a y b
+  pub mask-both : k ≡ Differ.MaskBoth → differedTo N 2 N 2 2 ≡ differed k x a y b
   mask-both e = rw e
 
-  pub mask-first : k ≡ Differ.MaskLowerQual → a < b → differedTo 15 2 y b 1 ≡ differed k x a y b
+  pub mask-first : k ≡ Differ.MaskLowerQual → a < b → differedTo N 2 y b 1 ≡ differed k x a y b
   mask-first e h = rw (e, le-leb a b (omega arith), lt-leb b a h, ne-eqb a b (λ q. omega arith))
 
-  pub mask-second : k ≡ Differ.MaskLowerQual → b < a → differedTo x a 15 2 1 ≡ differed k x a y b
+  pub mask-second : k ≡ Differ.MaskLowerQual → b < a → differedTo x a N 2 1 ≡ differed k x a y b
   mask-second e h = rw (e, lt-leb a b h, le-leb b a (omega arith), ne-eqb a b (λ q. omega arith))
 
-  pub mask-equal : k ≡ Differ.MaskLowerQual → a ≤ b → b ≤ a → differedTo 15 2 15 2 2 ≡ differed k x a y b
+  pub mask-equal : k ≡ Differ.MaskLowerQual → a ≤ b → b ≤ a → differedTo N 2 N 2 2 ≡ differed k x a y b
   mask-equal e h h′ = rw (e, le-leb a b h, le-leb b a h′, eq-eqb a b (omega arith))
 
 -- ---- what every treatment keeps: base codes stay below 16, and no count grows by more than 2
@@ -77,9 +78,9 @@ fine-agreed x a b p q h =
     record { base1 = h; base2 = h; growth = omega arith }
 
 differed-low : (k : DisagreementStrategy) (x a y b : ℕ) → x < 16 → y < 16 → differedBase k x a y b < 16
-differed-low Differ.Consensus x a y b h l = below (eqb a b) 15 (cond (ltb a b) y x) 16 (omega arith) (below (ltb a b) y x 16 l h)
+differed-low Differ.Consensus x a y b h l = below (eqb a b) N (cond (ltb a b) y x) 16 (omega arith) (below (ltb a b) y x 16 l h)
 differed-low Differ.MaskBoth x a y b h l = omega arith
-differed-low Differ.MaskLowerQual x a y b h l = below (leb a b) 15 x 16 (omega arith) h
+differed-low Differ.MaskLowerQual x a y b h l = below (leb a b) N x 16 (omega arith) h
 
 count-low : (k : DisagreementStrategy) (a b : ℕ) → differedCount k a b < 3
 count-low Differ.Consensus a b = omega arith
@@ -98,5 +99,5 @@ fine-cond false h k = k
 pub fine : (w : Strategies) (x a y b : ℕ) → x < 16 → y < 16 → Fine (treated w x a y b)
 unfolding treated
 fine w x a y b h l =
-    fine-cond (eqb x 15 || eqb y 15) (omega arith)
+    fine-cond (eqb x N || eqb y N) (omega arith)
     (fine-cond (eqb x y) (fine-agreed x a b _ _ h) (fine-differed (w .disagreement) x a y b h l))

@@ -2,6 +2,7 @@
 use Prim.Native.Nat.{ℕ, _+_, _-_, min, max}
 use mathlib.Core.Bool.{Bool, cond, _&&_, _||_}
 use lib.Dec.{eqb, ltb, leb}
+use Rattle.bases.specs.Code.{N}
 use Rattle.stats.specs.declared.CorrectionStats.{CorrectionStats}
 use Rattle.stats.specs.Counts.{counts, zeroed}
 use Rattle.strategy.specs.declared.AgreementStrategy.{AgreementStrategy}
@@ -27,11 +28,11 @@ agreedTo x a b p q = out x p x q (counts 1 1 0 (cond (eqb a p && eqb b q) 0 1))
 abbrev pub agreed : AgreementStrategy → ℕ → ℕ → ℕ → Treated
 agreed m x a b = agreedTo x a b (agreedQual m a b) (agreedQual m b a)
 
--- what a base x of quality a becomes beside another base y of quality b; N is 15
+-- what a base x of quality a becomes beside another base y of quality b
 abbrev pub differedBase : DisagreementStrategy → ℕ → ℕ → ℕ → ℕ → ℕ
-differedBase Differ.Consensus x a y b = cond (eqb a b) 15 (cond (ltb a b) y x)
-differedBase Differ.MaskBoth x a y b = 15
-differedBase Differ.MaskLowerQual x a y b = cond (leb a b) 15 x
+differedBase Differ.Consensus x a y b = cond (eqb a b) N (cond (ltb a b) y x)
+differedBase Differ.MaskBoth x a y b = N
+differedBase Differ.MaskLowerQual x a y b = cond (leb a b) N x
 
 abbrev pub differedQual : DisagreementStrategy → ℕ → ℕ → ℕ
 differedQual Differ.Consensus a b = max ((a - b) + (b - a)) 2
@@ -53,5 +54,5 @@ differed k x a y b =
 -- an N on either side: nothing changes or counts; equal codes agree
 unfoldable pub treated : Strategies → ℕ → ℕ → ℕ → ℕ → Treated
 treated w x a y b =
-    cond (eqb x 15 || eqb y 15) (out x a y b zeroed)
+    cond (eqb x N || eqb y N) (out x a y b zeroed)
     (cond (eqb x y) (agreed (w .agreement) x a b) (differed (w .disagreement) x a y b))

@@ -1,4 +1,5 @@
 // What a shared position becomes: two bases and their qualities, treated by the two strategies.
+use bases::N;
 use refusal::Refusal;
 use stats::CorrectionStats;
 ghost use mathlib.Core.Path.{_≡_};
@@ -124,30 +125,30 @@ fn process_disagreement(k: DisagreementStrategy, x: u8, a: u8, y: u8, b: u8) -> 
                 let q = larger(a - b, 2);
                 return disagreement(x, q, x, q, 2);
             }
-            disagreement(15, 2, 15, 2, 2)
+            disagreement(N, 2, N, 2, 2)
         }
-        DisagreementStrategy::MaskBoth => disagreement(15, 2, 15, 2, 2),
+        DisagreementStrategy::MaskBoth => disagreement(N, 2, N, 2, 2),
         DisagreementStrategy::MaskLowerQual => {
             if a < b {
-                return disagreement(15, 2, y, b, 1);
+                return disagreement(N, 2, y, b, 1);
             }
             if b < a {
-                return disagreement(x, a, 15, 2, 1);
+                return disagreement(x, a, N, 2, 1);
             }
-            disagreement(15, 2, 15, 2, 2)
+            disagreement(N, 2, N, 2, 2)
         }
     }
 }
 
 // What a shared position becomes: base code x with quality a in the first record, and y with b in
-// the second. Code 15 is N, which no strategy touches.
+// the second. No strategy touches an N.
 pub fn treat(w: Strategies, x: u8, a: u8, y: u8, b: u8) -> Treated
     ensures { λ r. ⌜ r ≡ treated w x a y b ⌝ }
 {
-    if x == 15 {
+    if x == N {
         return untouched(x, a, y, b);
     }
-    if y == 15 {
+    if y == N {
         return untouched(x, a, y, b);
     }
     if x == y {

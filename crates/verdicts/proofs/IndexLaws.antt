@@ -11,7 +11,7 @@ use Rattle.fields.specs.declared.Placed.the-variants.{At, Unplaced}
 use Rattle.fields.specs.declared.Checked.{Checked}
 use Rattle.fields.specs.declared.Checked.the-variants.{Good, Bad}
 use Rattle.refusal.specs.declared.Refusal.the-variants.{RecordShort, RecordLong, NameAndOperations, BasesAndQualities, ReadTotal, ReferenceEnd}
-use Rattle.fields.specs.Flag.{hasBit}
+use Rattle.fields.specs.Flag.{hasBit, unmapped}
 use Rattle.fields.specs.Layout.{header, basesAt, tagsAt, layoutOf}
 use Rattle.fields.specs.Placed.{placedOf, sameId}
 use Rattle.fields.specs.Check.{checkOf}
@@ -122,7 +122,7 @@ module _ (i j : ℕ) where
 
   judged-of-at : (y z : Layout) (a b : List ℕ) → judgedOf y z a b i j ≡ judgedAt (judgedOf y z a b 1 2)
   unfolding judgedOf
-  judged-of-at y z a b = go (hasBit (header a .flags) 4 || hasBit (header b .flags) 4)
+  judged-of-at y z a b = go (hasBit (header a .flags) unmapped || hasBit (header b .flags) unmapped)
     where
       go : (t : Bool) → cond t Judge.Apart (mappedOf y z a b i j) ≡ judgedAt (cond t Judge.Apart (mappedOf y z a b 1 2))
       go true = refl
