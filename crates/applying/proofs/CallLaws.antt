@@ -16,7 +16,8 @@ use Rattle.stats.specs.Counts.{zeroed, full}
 use Rattle.stats.specs.Room.{AtMost}
 use Rattle.stats.proofs.CountLaws.{most-less, most-plus}
 use Rattle.strategy.specs.declared.Strategies.{Strategies}
-use Rattle.positions.specs.Step.{Job, job, State, state}
+use Rattle.positions.specs.declared.Job.{Job}
+use Rattle.positions.specs.Step.{job, State, state}
 use Rattle.positions.specs.Treating.{step, steps}
 use Rattle.positions.proofs.StepLaws.{ruled-fine, steps-length}
 use Rattle.positions.proofs.PointLaws.{Rises}

@@ -17,7 +17,8 @@ use Rattle.strategy.specs.declared.Strategies.{Strategies}
 use Rattle.bases.specs.Base.{baseAt, qualityAt}
 use Rattle.bases.specs.Written.{withSeen}
 use Rattle.bases.proofs.BaseLaws.{put-base-other, put-qual-other}
-use Rattle.positions.specs.Step.{Job, job, State, state, ruled}
+use Rattle.positions.specs.declared.Job.{Job}
+use Rattle.positions.specs.Step.{job, State, state, ruled}
 use Rattle.positions.specs.Treating.{wrote, step, steps, row}
 use Rattle.positions.proofs.StepLaws.{ruled-fine}
 use Rattle.positions.proofs.PointLaws.{Both, both-step}

@@ -5,7 +5,8 @@ use mathlib.Core.List.{List, _∷_, _++_}
 use native.Mathlib.Omega.{arith}
 use lib.ListN.{length}
 use Rattle.stats.proofs.CountLaws.{room-less}
-use Rattle.positions.specs.Step.{Job, State}
+use Rattle.positions.specs.declared.Job.{Job}
+use Rattle.positions.specs.Step.{State}
 use Rattle.positions.specs.Treating.{steps, row}
 use Rattle.positions.proofs.StepLaws.{Running, steps-append, steps-length, steps-room, row-length}
 

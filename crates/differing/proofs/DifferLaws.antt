@@ -12,7 +12,8 @@ use Rattle.fields.proofs.Arith.{lt-or-le}
 use Rattle.stats.specs.Room.{Room}
 use Rattle.stats.proofs.CountLaws.{room-less}
 use Rattle.bases.proofs.BaseLaws.{put-length}
-use Rattle.positions.specs.Step.{Job, State}
+use Rattle.positions.specs.declared.Job.{Job}
+use Rattle.positions.specs.Step.{State}
 use Rattle.positions.specs.Treating.{step, steps}
 use Rattle.positions.proofs.StepLaws.{step-room}
 use Rattle.differing.specs.Picked.{picked, Passed}

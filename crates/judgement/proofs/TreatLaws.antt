@@ -28,7 +28,8 @@ use Rattle.cigar.proofs.SitsLaws.{off-within}
 use Rattle.cigar.specs.Judge.{operationsOf, spanOf}
 use Rattle.cigar.proofs.JudgeLaws.{good-uses, good-span}
 use Rattle.stats.specs.declared.CorrectionStats.{CorrectionStats}
-use Rattle.positions.specs.Step.{Job, State, state}
+use Rattle.positions.specs.declared.Job.{Job}
+use Rattle.positions.specs.Step.{State, state}
 use Rattle.positions.specs.Treating.{steps}
 use Rattle.merge.specs.Shared.{baseIn, shared, merged, Walked}
 use Rattle.merge.proofs.PairLaws.{none-left, none-in}

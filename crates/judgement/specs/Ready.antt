@@ -7,7 +7,8 @@ use Rattle.fields.specs.declared.Layout.{Layout}
 use Rattle.fields.specs.declared.RefPos.{RefPos}
 use Rattle.cigar.specs.declared.Extent.{Extent}
 use Rattle.fields.specs.Sound.{Sound}
-use Rattle.positions.specs.Step.{State, Job}
+use Rattle.positions.specs.declared.Job.{Job}
+use Rattle.positions.specs.Step.{State}
 use Rattle.merge.specs.Shared.{shared, merged}
 use Rattle.judgement.specs.declared.Judged.the-variants as Judge
 use Rattle.judgement.specs.Judgement.{judgedOf}

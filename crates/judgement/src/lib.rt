@@ -7,15 +7,15 @@ use fields::Layout;
 use fields::Placed;
 use fields::RefPos;
 use merge::Met;
+use positions::Job;
 use refusal::Refusal;
 use stats::CorrectionStats;
-use strategy::Strategies;
 ghost use mathlib.Core.Path.{_≡_};
 ghost use Prim.Native.Nat.{ℕ, _≤_};
 ghost use lib.ListN.{length};
 ghost use Rattle.fields.specs.Sound.{Sound};
 ghost use Rattle.stats.specs.Room.{Room};
-ghost use Rattle.positions.specs.Step.{state, job};
+ghost use Rattle.positions.specs.Step.{state};
 ghost use Rattle.judgement.specs.Judgement.{onUses, onSpan, spanIn, judgedOf};
 ghost use Rattle.judgement.specs.Ready.{Ready, TreatedTo};
 ghost use Rattle.judgement.specs.Where.{whereOf};
@@ -131,22 +131,20 @@ fn none_met(g: CorrectionStats) -> Met
 // The shared positions of two records that were judged to be on one reference, treated. There are
 // none where a record has no base, or where one ends before the other begins.
 pub fn treat(
-    w: Strategies,
+    w: Job,
     first: &mut [u8],
     second: &mut [u8],
-    y: Layout,
-    z: Layout,
     p: Extent,
     q: Extent,
     g: CorrectionStats,
 ) -> Met
-    requires { ⌜ Ready y z p q (now first) (now second) × Room g 131072 ⌝ }
-    ensures { λ r. ⌜ TreatedTo (job w y z) (p .start) (q .start) (state (now (first .entry)) (now (second .entry)) g) (state (now (first .exit)) (now (second .exit)) (r .stats)) (r .shared) ⌝ }
+    requires { ⌜ Ready (w .first) (w .second) p q (now first) (now second) × Room g 131072 ⌝ }
+    ensures { λ r. ⌜ TreatedTo w (p .start) (q .start) (state (now (first .entry)) (now (second .entry)) g) (state (now (first .exit)) (now (second .exit)) (r .stats)) (r .shared) ⌝ }
 {
-    if y.count == 0 {
+    if w.first.count == 0 {
         return none_met(g);
     }
-    if z.count == 0 {
+    if w.second.count == 0 {
         return none_met(g);
     }
     if p.end.0 <= q.start.0 {
@@ -155,5 +153,5 @@ pub fn treat(
     if q.end.0 <= p.start.0 {
         return none_met(g);
     }
-    merge::merge(w, first, second, y, z, p.start, q.start, g)
+    merge::merge(w, first, second, p.start, q.start, g)
 }

@@ -11,7 +11,8 @@ use Rattle.stats.specs.Counts.{plus}
 use Rattle.cigar.specs.Place.{Sits}
 use Rattle.bases.specs.Base.{baseAt, qualityAt}
 use Rattle.fields.specs.Among.{Among}
-use Rattle.positions.specs.Step.{State, Job, Rising, Becomes, growths}
+use Rattle.positions.specs.declared.Job.{Job}
+use Rattle.positions.specs.Step.{State, Rising, Becomes, growths}
 use Rattle.cigar.specs.Operation.{opsIn}
 
 -- base i of the first record and base j of the second sit at one position

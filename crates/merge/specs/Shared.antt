@@ -6,7 +6,8 @@ use Rattle.fields.specs.declared.Layout.{Layout}
 use Rattle.fields.specs.declared.RefPos.{RefPos}
 use Rattle.cigar.specs.Operation.{opsIn, readSum, refSum}
 use Rattle.cigar.specs.Found.{baseOn}
-use Rattle.positions.specs.Step.{Job, State}
+use Rattle.positions.specs.declared.Job.{Job}
+use Rattle.positions.specs.Step.{State}
 use Rattle.positions.specs.Treating.{steps}
 
 -- the offset of a record's base that sits at a position, if there is one

@@ -1,16 +1,15 @@
 // The walk over the shared positions of two records: two cursors, one over each alignment, and every
 // run of positions at which both records have a base.
-use fields::Layout;
 use fields::ReadOffset;
 use fields::RefPos;
+use positions::Job;
 use stats::CorrectionStats;
-use strategy::Strategies;
 ghost use mathlib.Core.Path.{_≡_};
 ghost use Prim.Native.Nat.{_*_, min};
 ghost use lib.ListN.{length};
 ghost use Rattle.fields.specs.Sound.{Lies};
 ghost use Rattle.stats.specs.Room.{Room};
-ghost use Rattle.positions.specs.Step.{state, job};
+ghost use Rattle.positions.specs.Step.{state};
 ghost use Rattle.merge.specs.Shared.{shared, merged, Walked};
 
 // How many positions are shared, and the counts after them.
@@ -27,19 +26,19 @@ fn smaller(a: usize, b: usize) -> usize
 
 // All shared positions of two records whose alignments start at the positions p and q, treated.
 pub fn merge(
-    w: Strategies,
+    w: Job,
     first: &mut [u8],
     second: &mut [u8],
-    y: Layout,
-    z: Layout,
     p: RefPos,
     q: RefPos,
     g: CorrectionStats,
 ) -> Met
-    requires { ⌜ Lies y (length (now first)) × Lies z (length (now second)) × Walked y p (now first) × Walked z q (now second) × Room g (2 * y .count) ⌝ }
-    ensures treated { λ r. ⌜ state (now (first .exit)) (now (second .exit)) (r .stats) ≡ merged (job w y z) p q (state (now (first .entry)) (now (second .entry)) g) ⌝ }
-    ensures counted { λ r. ⌜ r .shared ≡ length (shared y z p q (now (first .entry)) (now (second .entry))) ⌝ }
+    requires { ⌜ Lies (w .first) (length (now first)) × Lies (w .second) (length (now second)) × Walked (w .first) p (now first) × Walked (w .second) q (now second) × Room g (2 * w .first .count) ⌝ }
+    ensures treated { λ r. ⌜ state (now (first .exit)) (now (second .exit)) (r .stats) ≡ merged w p q (state (now (first .entry)) (now (second .entry)) g) ⌝ }
+    ensures counted { λ r. ⌜ r .shared ≡ length (shared (w .first) (w .second) p q (now (first .entry)) (now (second .entry))) ⌝ }
 {
+    let y = w.first;
+    let z = w.second;
     let ye = y.bases;
     let ze = z.bases;
     let from1 = p.0;
@@ -62,7 +61,7 @@ pub fn merge(
         } else {
             let n = smaller(a.left, b.left);
             h = blocks::treat_row(
-                w,
+                w.strategies,
                 first,
                 second,
                 y,

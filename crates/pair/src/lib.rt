@@ -1,8 +1,8 @@
 // The pair call: two records judged wholly, and only then corrected where they stand.
 use cigar::Extent;
 use fields::Checked;
-use fields::Layout;
 use judgement::Judged;
+use positions::Job;
 use refusal::Refusal;
 use stats::CorrectionStats;
 use strategy::AgreementStrategy;
@@ -52,19 +52,17 @@ fn refused(c: Checked) -> Answer
 
 // Two records that were judged to be on one reference: treated, and answered by what they share.
 fn call_both(
-    w: Strategies,
+    w: Job,
     first: &mut [u8],
     second: &mut [u8],
-    y: Layout,
-    z: Layout,
     p: Extent,
     q: Extent,
     stats: CorrectionStats,
 ) -> Called
-    requires { ⌜ Ready y z p q (now first) (now second) × Room stats 131072 ⌝ }
-    ensures { λ r. ⌜ outcome (r .answer) (state (now (first .exit)) (now (second .exit)) (r .stats)) ≡ onJudged w y z (state (now (first .entry)) (now (second .entry)) stats) (Judged.Both p q) ⌝ }
+    requires { ⌜ Ready (w .first) (w .second) p q (now first) (now second) × Room stats 131072 ⌝ }
+    ensures { λ r. ⌜ outcome (r .answer) (state (now (first .exit)) (now (second .exit)) (r .stats)) ≡ onJudged (w .strategies) (w .first) (w .second) (state (now (first .entry)) (now (second .entry)) stats) (Judged.Both p q) ⌝ }
 {
-    let met = judgement::treat(w, first, second, y, z, p, q, stats);
+    let met = judgement::treat(w, first, second, p, q, stats);
     let after = met.stats;
     if met.shared == 0 {
         return Called {
@@ -112,7 +110,14 @@ fn call_with(w: Strategies, first: &mut [u8], second: &mut [u8], stats: Correcti
             answer: Answer::NoOverlap,
             stats,
         },
-        Judged::Both(p, q) => call_both(w, first, second, y, z, p, q, stats),
+        Judged::Both(p, q) => {
+            let job = Job {
+                strategies: w,
+                first: y,
+                second: z,
+            };
+            call_both(job, first, second, p, q, stats)
+        }
     }
 }
 

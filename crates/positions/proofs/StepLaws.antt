@@ -15,7 +15,8 @@ use Rattle.bases.specs.declared.Seen.{Seen}
 use Rattle.bases.specs.Base.{qualityAt}
 use Rattle.bases.specs.Written.{withSeen, SeenAt}
 use Rattle.bases.proofs.BaseLaws.{half-small, put-length, put-front}
-use Rattle.positions.specs.Step.{Job, State, state, ruled}
+use Rattle.positions.specs.declared.Job.{Job}
+use Rattle.positions.specs.Step.{State, state, ruled}
 use Rattle.positions.specs.Treating.{wrote, step, steps, row}
 
 -- ---- one position

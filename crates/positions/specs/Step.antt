@@ -10,12 +10,7 @@ use Rattle.strategy.specs.declared.Strategies.{Strategies}
 use Rattle.strategy.specs.declared.Treated.{Treated}
 use Rattle.strategy.specs.Rule.{treated}
 use Rattle.bases.specs.Base.{baseAt, qualityAt}
-
--- what is the same over a whole pair: the strategies, and where each record has its parts
-pub record Job : Type 0 where
-  pub strategies : Strategies
-  pub first : Layout
-  pub second : Layout
+use Rattle.positions.specs.declared.Job.{Job}
 
 abbrev pub job : Strategies → Layout → Layout → Job
 job v y z = record { strategies = v; first = y; second = z }

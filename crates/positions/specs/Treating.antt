@@ -4,7 +4,8 @@ use mathlib.Core.List.{List, [], _∷_}
 use Rattle.stats.specs.Counts.{plus}
 use Rattle.strategy.specs.declared.Treated.{Treated}
 use Rattle.bases.specs.Written.{withSeen}
-use Rattle.positions.specs.Step.{Job, State, state, ruled}
+use Rattle.positions.specs.declared.Job.{Job}
+use Rattle.positions.specs.Step.{State, state, ruled}
 
 abbrev pub wrote : Job → State → ℕ → ℕ → Treated → State
 wrote w s i j o = state (withSeen (s .first) (w .first) i (o .base1) (o .qual1)) (withSeen (s .second) (w .second) j (o .base2) (o .qual2)) (plus (s .stats) (o .growth))

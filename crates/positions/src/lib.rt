@@ -11,6 +11,13 @@ ghost use Rattle.stats.specs.Room.{Room};
 ghost use Rattle.positions.specs.Step.{state, job};
 ghost use Rattle.positions.specs.Treating.{step, steps, row};
 
+// What is the same over a whole pair: the strategies, and where each record has its parts.
+pub struct Job {
+    pub strategies: Strategies,
+    pub first: Layout,
+    pub second: Layout,
+}
+
 // One shared position: base i of the first record and base j of the second.
 pub fn treat_one(
     w: Strategies,
