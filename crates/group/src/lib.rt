@@ -7,9 +7,9 @@ use strategy::Strategies;
 use verdicts::Verdict;
 ghost use mathlib.Core.Path.{_≡_};
 ghost use mathlib.Core.Bool.{false};
-ghost use Prim.Native.Nat.{_≤_};
-ghost use lib.ListN.{length};
 ghost use Rattle.stats.specs.Counts.{full};
+ghost use Rattle.frames.specs.Frame.{framesOf};
+ghost use Rattle.frames.specs.Table.{Placed};
 ghost use Rattle.group.specs.Group.{ended, framedOf, groupOf};
 
 // What a group call answers: how many records, pairs and overlapping pairs there are, or why it is
@@ -39,60 +39,53 @@ fn refused(r: Refusal, stats: CorrectionStats) -> Grouped
     }
 }
 
-// The frames of a group, then its pairs: all are judged before any is written.
-fn group_framed(
+// The pairs of a group of n records: all are judged before any is written.
+fn group_pairs(
     buf: &mut [u8],
-    begins: &mut [usize],
-    key: &mut [u64],
-    head: &mut [usize],
-    next: &mut [usize],
-    mate: &mut [usize],
-    room: &mut [u8],
+    begins: &[usize],
+    n: usize,
     w: Strategies,
     stats: CorrectionStats,
 ) -> Grouped
-    requires { ⌜ (257 ≤ length (now begins)) × (256 ≤ length (now key)) × (256 ≤ length (now head)) × (256 ≤ length (now next)) × (256 ≤ length (now mate)) × (65536 ≤ length (now room)) × (full stats ≡ false) ⌝ }
+    requires { ⌜ Placed (now buf) (now begins) n × (framesOf (now buf) ≡ Framing.Whole n) × (full stats ≡ false) ⌝ }
     ensures { λ r. ⌜ ended (r .answer) (now (buf .exit)) (r .stats) ≡ framedOf w (now (buf .entry)) stats ⌝ }
 {
-    let f = frames::cut(buf, begins);
-    match f {
-        Framing::Broken(r) => refused(r, stats),
-        Framing::Whole(n) => {
-            mates::find(buf, begins, n, key, head, next, mate);
-            let v = verdicts::judge_all(buf, begins, n, mate);
-            match v {
-                Verdict::Refused(r) => refused(r, stats),
-                Verdict::Passed => {
-                    let applied = applying::apply_all(buf, room, begins, n, mate, w, stats);
-                    let after = applied.stats;
-                    Grouped {
-                        answer: GroupAnswer::Done {
-                            records: n,
-                            pairs: applied.pairs,
-                            overlapping: applied.overlapping,
-                        },
-                        stats: after,
-                    }
-                }
+    let mut mate = [0usize; 256];
+    mates::find(buf, begins, n, &mut mate);
+    let v = verdicts::judge_all(buf, begins, n, &mate);
+    match v {
+        Verdict::Refused(r) => refused(r, stats),
+        Verdict::Passed => {
+            let applied = applying::apply_all(buf, begins, n, &mate, w, stats);
+            let after = applied.stats;
+            Grouped {
+                answer: GroupAnswer::Done {
+                    records: n,
+                    pairs: applied.pairs,
+                    overlapping: applied.overlapping,
+                },
+                stats: after,
             }
         }
     }
 }
 
-// The group call in room that the caller lends and that it leaves in any state: tables for 256
-// records, and a place for one.
-fn group_with(
-    buf: &mut [u8],
-    begins: &mut [usize; 257],
-    key: &mut [u64; 256],
-    head: &mut [usize; 256],
-    next: &mut [usize; 256],
-    mate: &mut [usize; 256],
-    room: &mut [u8; 65536],
-    agreement: u32,
-    disagreement: u32,
-    stats: CorrectionStats,
-) -> Grouped
+// The frames of a group, then its pairs.
+fn group_framed(buf: &mut [u8], w: Strategies, stats: CorrectionStats) -> Grouped
+    requires { ⌜ full stats ≡ false ⌝ }
+    ensures { λ r. ⌜ ended (r .answer) (now (buf .exit)) (r .stats) ≡ framedOf w (now (buf .entry)) stats ⌝ }
+{
+    let mut begins = [0usize; 257];
+    let f = frames::cut(buf, &mut begins);
+    match f {
+        Framing::Broken(r) => refused(r, stats),
+        Framing::Whole(n) => group_pairs(buf, &begins, n, w, stats),
+    }
+}
+
+// Corrects the overlapping pairs of a group of framed records where they stand, by the strategies of
+// these numbers, and adds to the counts. Refused, the group and the counts are as they came.
+pub fn group(buf: &mut [u8], agreement: u32, disagreement: u32, stats: CorrectionStats) -> Grouped
     ensures { λ r. ⌜ ended (r .answer) (now (buf .exit)) (r .stats) ≡ groupOf agreement disagreement (now (buf .entry)) stats ⌝ }
 {
     let numbered = strategy::by_number(agreement, disagreement);
@@ -102,32 +95,7 @@ fn group_with(
             if stats.full() {
                 return refused(Refusal::Count, stats);
             }
-            group_framed(buf, begins, key, head, next, mate, room, w, stats)
+            group_framed(buf, w, stats)
         }
     }
-}
-
-// Corrects the overlapping pairs of a group of framed records where they stand, by the strategies of
-// these numbers, and adds to the counts. Refused, the group and the counts are as they came.
-pub fn group(buf: &mut [u8], agreement: u32, disagreement: u32, stats: CorrectionStats) -> Grouped
-    ensures { λ r. ⌜ ended (r .answer) (now (buf .exit)) (r .stats) ≡ groupOf agreement disagreement (now (buf .entry)) stats ⌝ }
-{
-    let mut begins = [0usize; 257];
-    let mut key = [0u64; 256];
-    let mut head = [0usize; 256];
-    let mut next = [0usize; 256];
-    let mut mate = [0usize; 256];
-    let mut room = [0u8; 65536];
-    group_with(
-        buf,
-        &mut begins,
-        &mut key,
-        &mut head,
-        &mut next,
-        &mut mate,
-        &mut room,
-        agreement,
-        disagreement,
-        stats,
-    )
 }

@@ -199,20 +199,15 @@ fn enter_mates(
 }
 
 // Finds the mates of the n records of a group. Afterwards `mate` holds one more than the index of
-// each registered first's mate, and 0 elsewhere. The other tables are room for the search.
-pub fn find(
-    s: &[u8],
-    begins: &[usize],
-    n: usize,
-    key: &mut [u64],
-    head: &mut [usize],
-    next: &mut [usize],
-    mate: &mut [usize],
-)
-    requires { ⌜ Placed (now s) (now begins) n × (256 ≤ length (now key)) × (256 ≤ length (now head)) × (256 ≤ length (now next)) × (256 ≤ length (now mate)) ⌝ }
+// each registered first's mate, and 0 for the others of the n.
+pub fn find(s: &[u8], begins: &[usize], n: usize, mate: &mut [usize])
+    requires { ⌜ Placed (now s) (now begins) n × (256 ≤ length (now mate)) ⌝ }
     ensures { λ _. ⌜ Mated (now (s .entry)) (now (mate .exit)) n ⌝ }
 {
-    enter_keys(s, begins, n, key);
-    link(key, n, head, next);
-    enter_mates(s, begins, key, head, next, n, mate);
+    let mut key = [0u64; 256];
+    let mut head = [0usize; 256];
+    let mut next = [0usize; 256];
+    enter_keys(s, begins, n, &mut key);
+    link(&key, n, &mut head, &mut next);
+    enter_mates(s, begins, &key, &head, &next, n, mate);
 }
