@@ -57,17 +57,6 @@ fn refused(r: Refusal, stats: CorrectionStats) -> Filed
     }
 }
 
-// The mates of the n records, entered into `mate`.
-fn find_mates(s: &[u8], begins: &[usize], n: usize, mate: &mut [usize])
-    requires { ⌜ Placed (now s) (now begins) n × (256 ≤ length (now mate)) ⌝ }
-    ensures { λ _. ⌜ Mated (now (s .entry)) (now (mate .exit)) n ⌝ }
-{
-    let mut key = [0u64; 256];
-    let mut head = [0usize; 256];
-    let mut next = [0usize; 256];
-    mates::find(s, begins, n, &mut key, &mut head, &mut next, mate);
-}
-
 // The longest record that the small rooms take. Reads of a few hundred bases have under 1,000 bytes, and
 // rooms for the longest record would cost more to clear than most groups to correct.
 const SMALL: usize = 1024;
@@ -213,7 +202,7 @@ fn correct_raw(
         return refused(Refusal::Strategy, stats);
     };
     let mut mate = [0usize; 256];
-    find_mates(&filed[0..p], begins, n, &mut mate);
+    mates::find(&filed[0..p], begins, n, &mut mate);
     let v = verdicts::judge_all(&filed[0..p], begins, n, &mate);
     match v {
         Verdict::Refused(r) => refused(r, stats),

@@ -7,7 +7,6 @@ use denote.Ref.{now}
 use borrow.Author.Needs.{needs}
 use Rattle.filed.proofs.correct_raw.Statement.{statement}
 use Rattle.filed.proofs.correct_raw.Tie as tie
-use Rattle.filed.proofs.find_mates.Reads as find-mates-reads
 use Rattle.filed.proofs.refused.Reads as refused-reads
 use Rattle.filed.proofs.write_filed.Reads as write-filed-reads
 use Rattle.filed.proofs.written.Reads as written-reads
@@ -33,22 +32,29 @@ refused-requires : tie.Need-refused-requires
 refused-requires c κs = search needs
 
 returns : tie.Need-returns
-returns c = no-numbers (now (c .before .before .before .before .before .before .before .args .filed)) (now (c .before .before .before .before .before .before .before .args .out)) (c .before .before .before .before .before .before .before .args .stats) (c .before .before .before .before .before .before .before .args .p) (c .before .before .before .before .before .before .before .args .strategies) (c .before .before .before .by-number .result) (c .before .before .before .by-number .ensures) _ (c .before .enum-told .given .1) (c .refused .result) (c .refused .ensures)
+returns c =
+    let by-by-number = c .before .before .before in
+    let entry = by-by-number .before .before .before .before in
+    let args = entry .args in
+    no-numbers (now (args .filed)) (now (args .out)) (args .stats) (args .p) (args .strategies) (by-by-number .by-number .result) (by-by-number .by-number .ensures) _ (c .before .enum-told .given .1) (c .refused .result) (c .refused .ensures)
 
-sub-find-mates : tie.Need-sub-find-mates
-sub-find-mates c = search needs
+sub-find : tie.Need-sub-find
+sub-find c = search needs
 
-part-find-mates-start : tie.Need-part-find-mates-start
-part-find-mates-start c = search needs
+part-find-start : tie.Need-part-find-start
+part-find-start c = search needs
 
-part-find-mates-end : tie.Need-part-find-mates-end
-part-find-mates-end c = search needs
+part-find-end : tie.Need-part-find-end
+part-find-end c = search needs
 
-slice-aggregate-find-mates : tie.Need-slice-aggregate-find-mates
-slice-aggregate-find-mates c = search needs
+slice-aggregate-find : tie.Need-slice-aggregate-find
+slice-aggregate-find c = search needs
 
-find-mates-requires : tie.Need-find-mates-requires
-find-mates-requires c κs = (front-placed (now (c .before .before .before .before .before .before .before .before .before .args .filed)) (now (c .before .before .before .before .before .before .before .before .before .args .begins)) (c .before .before .before .before .before .before .before .before .before .args .n) (c .before .before .before .before .before .before .before .before .before .args .p) (c .before .before .before .before .before .before .before .before .before .pre .0) (c .before .before .before .before .before .before .before .before .before .pre .1), search needs)
+find-requires : tie.Need-find-requires
+find-requires c κs =
+    let entry = c .before .before .before .before .before .before .before .before .before in
+    let args = entry .args in
+    (front-placed (now (args .filed)) (now (args .begins)) (args .n) (args .p) (entry .pre .0) (entry .pre .1), search needs)
 
 sub-judge-all : tie.Need-sub-judge-all
 sub-judge-all c = search needs
@@ -63,7 +69,11 @@ slice-aggregate-judge-all : tie.Need-slice-aggregate-judge-all
 slice-aggregate-judge-all c = search needs
 
 judge-all-requires : tie.Need-judge-all-requires
-judge-all-requires c κs = (front-placed (now (c .before .before .before .before .before .before .before .before .before .before .before .before .before .args .filed)) (now (c .before .before .before .before .before .before .before .before .before .before .before .before .before .args .begins)) (c .before .before .before .before .before .before .before .before .before .before .before .before .before .args .n) (c .before .before .before .before .before .before .before .before .before .before .before .before .before .args .p) (c .before .before .before .before .before .before .before .before .before .before .before .before .before .pre .0) (c .before .before .before .before .before .before .before .before .before .before .before .before .before .pre .1), (c .before .before .before .find-mates .ensures))
+judge-all-requires c κs =
+    let by-find = c .before .before .before in
+    let entry = by-find .before .before .before .before .before .before .before .before .before .before in
+    let args = entry .args in
+    (front-placed (now (args .filed)) (now (args .begins)) (args .n) (args .p) (entry .pre .0) (entry .pre .1), (by-find .find .ensures))
 
 enum-known-v : tie.Need-enum-known-v
 enum-known-v c = search needs
@@ -78,25 +88,56 @@ refused-requires-3 : tie.Need-refused-requires-3
 refused-requires-3 c κs = search needs
 
 returns-2 : tie.Need-returns-2
-returns-2 c = output-short (now (c .before .before .before .before .before .before .before .before .before .before .before .before .before .before .before .before .before .before .args .filed)) (now (c .before .before .before .before .before .before .before .before .before .before .before .before .before .before .before .before .before .before .args .out)) (c .before .before .before .before .before .before .before .before .before .before .before .before .before .before .before .before .before .before .args .stats) (c .before .before .before .before .before .before .before .before .before .before .before .before .before .before .before .before .before .before .args .p) (c .before .before .before .before .before .before .before .before .before .before .before .before .before .before .before .before .before .before .args .strategies) (c .before .before .before .before .before .before .before .before .before .before .before .before .before .before .by-number .result) (c .before .before .before .before .before .before .before .before .before .before .before .before .before .before .by-number .ensures) _ (c .before .before .before .before .before .before .before .before .before .before .before .before .numbered .given .1) (c .before .before .before .before .before .before .before .before .before .before .before .before .before .before .before .before .before .before .args .n) (front-whole (now (c .before .before .before .before .before .before .before .before .before .before .before .before .before .before .before .before .before .before .args .filed)) (now (c .before .before .before .before .before .before .before .before .before .before .before .before .before .before .before .before .before .before .args .begins)) (c .before .before .before .before .before .before .before .before .before .before .before .before .before .before .before .before .before .before .args .n) (c .before .before .before .before .before .before .before .before .before .before .before .before .before .before .before .before .before .before .args .p) (c .before .before .before .before .before .before .before .before .before .before .before .before .before .before .before .before .before .before .pre .0) (c .before .before .before .before .before .before .before .before .before .before .before .before .before .before .before .before .before .before .pre .1)) (c .before .before .before .before .judge-all .result) (rw (front-part (now (c .before .before .before .before .before .before .before .before .before .before .before .before .before .before .before .before .before .before .args .filed)) (c .before .before .before .before .before .before .before .before .before .before .before .before .before .before .before .before .before .before .args .p)) at (c .before .before .before .before .judge-all .ensures)) (c .before .before .enum-told2 .given .1) (c .before .if1 .taken) (c .refused3 .result) (c .refused3 .ensures)
+returns-2 c =
+    let by-enum-told2 = c .before .before in
+    let by-judge-all = by-enum-told2 .before .before in
+    let by-numbered = by-judge-all .before .before .before .before .before .before .before .before in
+    let by-by-number = by-numbered .before .before in
+    let entry = by-by-number .before .before .before .before in
+    let args = entry .args in
+    output-short (now (args .filed)) (now (args .out)) (args .stats) (args .p) (args .strategies) (by-by-number .by-number .result) (by-by-number .by-number .ensures) _ (by-numbered .numbered .given .1) (args .n) (front-whole (now (args .filed)) (now (args .begins)) (args .n) (args .p) (entry .pre .0) (entry .pre .1)) (by-judge-all .judge-all .result) (rw (front-part (now (args .filed)) (args .p)) at (by-judge-all .judge-all .ensures)) (by-enum-told2 .enum-told2 .given .1) (c .before .if1 .taken) (c .refused3 .result) (c .refused3 .ensures)
 
 slice-aggregate-write-filed : tie.Need-slice-aggregate-write-filed
 slice-aggregate-write-filed c = search needs
 
 write-filed-requires : tie.Need-write-filed-requires
-write-filed-requires c κs = ((c .before .before .before .before .before .before .before .before .before .before .before .before .before .before .before .before .before .before .before .pre .0), (c .before .before .before .before .before .before .before .before .before .before .before .before .before .before .before .before .before .before .before .pre .1), rw (front-part (now (c .before .before .before .before .before .before .before .before .before .before .before .before .before .before .before .before .before .before .before .args .filed)) (c .before .before .before .before .before .before .before .before .before .before .before .before .before .before .before .before .before .before .before .args .p)) at (c .before .before .before .before .before .before .before .before .before .find-mates .ensures), (c .before .before .before .before .before .before .before .before .before .before .before .before .before .before .before .before .before .before .before .pre .2), omega arith)
+write-filed-requires c κs =
+    let by-find = c .before .before .before .before .before .before .before .before .before in
+    let entry = by-find .before .before .before .before .before .before .before .before .before .before in
+    let args = entry .args in
+    ((entry .pre .0), (entry .pre .1), rw (front-part (now (args .filed)) (args .p)) at (by-find .find .ensures), (entry .pre .2), omega arith)
 
 written-requires : tie.Need-written-requires
-written-requires c κs = growth-adds _ (take (c .before .before .before .before .before .before .before .before .before .before .before .before .before .before .before .before .before .before .before .before .before .before .args .p) (now (c .before .before .before .before .before .before .before .before .before .before .before .before .before .before .before .before .before .before .before .before .before .before .args .filed))) (c .before .before .before .before .before .before .before .before .before .before .before .before .before .before .before .before .before .before .before .before .before .before .args .n) (c .before .before .before .before .before .before .before .before .before .before .before .before .before .before .before .before .before .before .before .before .before .before .args .stats) _ (c .before .before .before .before .before .before .before .before .before .before .before .before .before .before .before .before .before .before .before .before .before .before .pre .0 .placed .few) (c .before .before .before .before .before .before .before .before .before .before .before .before .before .before .before .before .before .before .before .before .before .before .pre .3) (c .before .before .write-filed .ensures .stats)
+written-requires c κs =
+    let by-write-filed = c .before .before in
+    let entry = by-write-filed .before .before .before .before .before .before .before .before .before .before .before .before .before .before .before .before .before .before .before .before in
+    let args = entry .args in
+    growth-adds _ (take (args .p) (now (args .filed))) (args .n) (args .stats) _ (entry .pre .0 .placed .few) (entry .pre .3) (by-write-filed .write-filed .ensures .stats)
 
 returns-3 : tie.Need-returns-3
-returns-3 c = pair-refused (now (c .before .before .before .before .before .before .before .before .before .before .before .before .before .before .before .before .before .before .args .filed)) (now (c .before .before .before .before .before .before .before .before .before .before .before .before .before .before .before .before .before .before .args .out)) (c .before .before .before .before .before .before .before .before .before .before .before .before .before .before .before .before .before .before .args .stats) (c .before .before .before .before .before .before .before .before .before .before .before .before .before .before .before .before .before .before .args .p) (c .before .before .before .before .before .before .before .before .before .before .before .before .before .before .before .before .before .before .args .strategies) (c .before .before .before .before .before .before .before .before .before .before .before .before .before .before .by-number .result) (c .before .before .before .before .before .before .before .before .before .before .before .before .before .before .by-number .ensures) _ (c .before .before .before .before .before .before .before .before .before .before .before .before .numbered .given .1) (c .before .before .before .before .before .before .before .before .before .before .before .before .before .before .before .before .before .before .args .n) (front-whole (now (c .before .before .before .before .before .before .before .before .before .before .before .before .before .before .before .before .before .before .args .filed)) (now (c .before .before .before .before .before .before .before .before .before .before .before .before .before .before .before .before .before .before .args .begins)) (c .before .before .before .before .before .before .before .before .before .before .before .before .before .before .before .before .before .before .args .n) (c .before .before .before .before .before .before .before .before .before .before .before .before .before .before .before .before .before .before .args .p) (c .before .before .before .before .before .before .before .before .before .before .before .before .before .before .before .before .before .before .pre .0) (c .before .before .before .before .before .before .before .before .before .before .before .before .before .before .before .before .before .before .pre .1)) (c .before .before .before .before .judge-all .result) (rw (front-part (now (c .before .before .before .before .before .before .before .before .before .before .before .before .before .before .before .before .before .before .args .filed)) (c .before .before .before .before .before .before .before .before .before .before .before .before .before .before .before .before .before .before .args .p)) at (c .before .before .before .before .judge-all .ensures)) _ (c .before .before .v .given .1) (c .refused2 .result) (c .refused2 .ensures)
+returns-3 c =
+    let by-v = c .before .before in
+    let by-judge-all = by-v .before .before in
+    let by-numbered = by-judge-all .before .before .before .before .before .before .before .before in
+    let by-by-number = by-numbered .before .before in
+    let entry = by-by-number .before .before .before .before in
+    let args = entry .args in
+    pair-refused (now (args .filed)) (now (args .out)) (args .stats) (args .p) (args .strategies) (by-by-number .by-number .result) (by-by-number .by-number .ensures) _ (by-numbered .numbered .given .1) (args .n) (front-whole (now (args .filed)) (now (args .begins)) (args .n) (args .p) (entry .pre .0) (entry .pre .1)) (by-judge-all .judge-all .result) (rw (front-part (now (args .filed)) (args .p)) at (by-judge-all .judge-all .ensures)) _ (by-v .v .given .1) (c .refused2 .result) (c .refused2 .ensures)
 
 same-length : tie.Need-same-length
 same-length c = search needs
 
 returns-4 : tie.Need-returns-4
-returns-4 c = all-written (now (c .before .before .before .before .before .before .before .before .before .before .before .before .before .before .before .before .before .before .before .before .before .before .before .args .filed)) (now (c .before .before .before .before .before .before .before .before .before .before .before .before .before .before .before .before .before .before .before .before .before .before .before .args .out)) (c .before .before .before .before .before .before .before .before .before .before .before .before .before .before .before .before .before .before .before .before .before .before .before .args .stats) (c .before .before .before .before .before .before .before .before .before .before .before .before .before .before .before .before .before .before .before .before .before .before .before .args .p) (c .before .before .before .before .before .before .before .before .before .before .before .before .before .before .before .before .before .before .before .before .before .before .before .args .strategies) (c .before .before .before .before .before .before .before .before .before .before .before .before .before .before .before .before .before .before .before .by-number .result) (c .before .before .before .before .before .before .before .before .before .before .before .before .before .before .before .before .before .before .before .by-number .ensures) _ (c .before .before .before .before .before .before .before .before .before .before .before .before .before .before .before .before .before .numbered .given .1) (c .before .before .before .before .before .before .before .before .before .before .before .before .before .before .before .before .before .before .before .before .before .before .before .args .n) (front-whole (now (c .before .before .before .before .before .before .before .before .before .before .before .before .before .before .before .before .before .before .before .before .before .before .before .args .filed)) (now (c .before .before .before .before .before .before .before .before .before .before .before .before .before .before .before .before .before .before .before .before .before .before .before .args .begins)) (c .before .before .before .before .before .before .before .before .before .before .before .before .before .before .before .before .before .before .before .before .before .before .before .args .n) (c .before .before .before .before .before .before .before .before .before .before .before .before .before .before .before .before .before .before .before .before .before .before .before .args .p) (c .before .before .before .before .before .before .before .before .before .before .before .before .before .before .before .before .before .before .before .before .before .before .before .pre .0) (c .before .before .before .before .before .before .before .before .before .before .before .before .before .before .before .before .before .before .before .before .before .before .before .pre .1)) (c .before .before .before .before .before .before .before .before .before .judge-all .result) (rw (front-part (now (c .before .before .before .before .before .before .before .before .before .before .before .before .before .before .before .before .before .before .before .before .before .before .before .args .filed)) (c .before .before .before .before .before .before .before .before .before .before .before .before .before .before .before .before .before .before .before .before .before .before .before .args .p)) at (c .before .before .before .before .before .before .before .before .before .judge-all .ensures)) (c .before .before .before .before .before .before .before .enum-told2 .given .1) (omega arith) (c .before .before .before .write-filed .result) _ (c .before .before .before .write-filed .ensures) (c .written .result) (c .written .ensures)
+returns-4 c =
+    let by-write-filed = c .before .before .before in
+    let by-if1 = by-write-filed .before .before .before in
+    let by-enum-told2 = by-if1 .before in
+    let by-judge-all = by-enum-told2 .before .before in
+    let by-numbered = by-judge-all .before .before .before .before .before .before .before .before in
+    let by-by-number = by-numbered .before .before in
+    let entry = by-by-number .before .before .before .before in
+    let args = entry .args in
+    all-written (now (args .filed)) (now (args .out)) (args .stats) (args .p) (args .strategies) (by-by-number .by-number .result) (by-by-number .by-number .ensures) _ (by-numbered .numbered .given .1) (args .n) (front-whole (now (args .filed)) (now (args .begins)) (args .n) (args .p) (entry .pre .0) (entry .pre .1)) (by-judge-all .judge-all .result) (rw (front-part (now (args .filed)) (args .p)) at (by-judge-all .judge-all .ensures)) (by-enum-told2 .enum-told2 .given .1) (omega (arith, by-if1 .if1 .left)) (by-write-filed .write-filed .result) _ (by-write-filed .write-filed .ensures) (c .written .result) (c .written .ensures)
 
 pub correct-raw-spec : {M : Type 1} → statement M
 correct-raw-spec =
@@ -109,11 +150,11 @@ correct-raw-spec =
     enum-told
     refused-requires
     returns
-    sub-find-mates
-    part-find-mates-start
-    part-find-mates-end
-    slice-aggregate-find-mates
-    find-mates-requires
+    sub-find
+    part-find-start
+    part-find-end
+    slice-aggregate-find
+    find-requires
     sub-judge-all
     part-judge-all-start
     part-judge-all-end
