@@ -21,7 +21,8 @@ use Rattle.cigar.specs.Judge.{onKind, onLength, faultOr, walkOf, judged,
 use Rattle.cigar.proofs.PlaceLaws.{kind-bad, ops-step, ops-short}
 use Rattle.cigar.proofs.CursorLaws.{le-take}
 
-known-kind : (c : ℕ) (x : Walk) → c ≤ 8 → onKind (kindOf c) x ≡ x
+-- at a code of 0 to 8 the walk goes on
+pub known-kind : (c : ℕ) (x : Walk) → c ≤ 8 → onKind (kindOf c) x ≡ x
 known-kind zero x h = refl
 known-kind (suc zero) x h = refl
 known-kind (suc (suc zero)) x h = refl
@@ -33,7 +34,8 @@ known-kind (suc (suc (suc (suc (suc (suc (suc zero))))))) x h = refl
 known-kind (suc (suc (suc (suc (suc (suc (suc (suc zero)))))))) x h = refl
 known-kind (suc (suc (suc (suc (suc (suc (suc (suc (suc n))))))))) x h = absurd (omega arith)
 
-some-length : (m : ℕ) (x : Walk) → (m ≡ 0 → ⊥) → onLength m x ≡ x
+-- at a length above 0 the walk goes on
+pub some-length : (m : ℕ) (x : Walk) → (m ≡ 0 → ⊥) → onLength m x ≡ x
 some-length zero x h = absurd (h refl)
 some-length (suc m) x h = refl
 

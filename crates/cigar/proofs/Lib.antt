@@ -2,3 +2,4 @@ pub mod PlaceLaws
 pub mod SitsLaws
 pub mod CursorLaws
 pub mod JudgeLaws
+pub mod ExactLaws

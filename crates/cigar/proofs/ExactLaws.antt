@@ -1,0 +1,194 @@
+-- Refusals 5 to 7 are given exactly when the document says.
+use Prim.Native.Nat.{ℕ, _%_, _≤_, _<_}
+use mathlib.Core.Path.{_≡_, refl, sym, ap, _∙_}
+use mathlib.Core.List.{List, [], _∷_, _++_, append-nil}
+use mathlib.Core.Bool.{Bool, true, false, _&&_, not}
+use mathlib.Core.Logic.{_↔_, _⊎_, inl, inr, ⊎-elim}
+use native.Mathlib.Omega.{arith}
+use lib.ListN.{length}
+use lib.Dec.{eqb, ltb}
+use borrow.Author.Tests.{ltb-true, ltb-false, eqb-true, eqb-false}
+use Rattle.refusal.specs.declared.Refusal.the-variants.{OperationCode, OperationLength, ReadTotal}
+use Rattle.fields.specs.declared.Layout.{Layout}
+use Rattle.fields.proofs.Arith.{lt-or-le}
+use Rattle.cigar.specs.Operation.{Unknown, kind, len, readSum, refSum, opsIn}
+use Rattle.cigar.specs.declared.Walk.{Walk}
+use Rattle.cigar.specs.declared.Walk.the-variants.{Totals, UnknownCode, ZeroLength}
+use Rattle.cigar.specs.declared.Operations.{Operations}
+use Rattle.cigar.specs.declared.Operations.the-variants as Ops
+use Rattle.cigar.specs.Judge.{onKind, onLength, faultOr, walkOf, judged, operationsOf}
+use Rattle.cigar.specs.Exact.{BadCode, BadLength, BadTotal, Faultless, FirstFault, GivenExactly}
+use Rattle.cigar.proofs.PlaceLaws.{kind-bad}
+use Rattle.cigar.proofs.JudgeLaws.{known-kind, some-length}
+
+-- a code above 8 is one that no kind of operation has
+pub bad-unknown : (op : ℕ) → BadCode op ↔ (kind op ≡ Unknown)
+bad-unknown op = (λ h. kind-bad (op % 16) h, λ e. ⊎-elim (λ h. h) (λ h. absurd (known h e)) (lt-or-le 8 (op % 16)))
+  where
+    known : op % 16 ≤ 8 → kind op ≡ Unknown → ⊥
+    known h e =
+        let k : onKind (kind op) (Totals 0 0) ≡ Totals 0 0 = known-kind (op % 16) (Totals 0 0) h in
+        let u : UnknownCode ≡ Totals 0 0 = rw e at k in
+        let z : _≡_ {A = ℕ} 0 1 = cc in omega arith
+
+-- ---- every operation, from the first on
+-- of no operations none is faulty
+none-faulty : Faultless []
+none-faulty [] op after e = let z : _≡_ {A = ℕ} 0 1 = cc in absurd (omega arith)
+none-faulty (b ∷ before) op after e = let z : _≡_ {A = ℕ} 0 1 = cc in absurd (omega arith)
+
+-- one more in front, itself without fault
+one-more : {w : ℕ} {ws : List ℕ} → w % 16 ≤ 8 → 0 < len w → Faultless ws → Faultless (w ∷ ws)
+one-more {w} {ws} c n h [] op after e = let same : w ≡ op = cc in rw (← same) (c, n)
+one-more {w} {ws} c n h (b ∷ before) op after e = h before op after (cc)
+
+-- one less in front
+one-less : {w : ℕ} {ws : List ℕ} → Faultless (w ∷ ws) → Faultless ws
+one-less {w} h before op after e = h (w ∷ before) op after (ap (λ (l : List ℕ). w ∷ l) e)
+
+-- the walk passes operations without fault,
+pass-front : (before rest : List ℕ) (good : Walk) → Faultless before → faultOr (before ++ rest) good ≡ faultOr rest good
+unfolding faultOr
+pass-front [] rest good h = refl
+pass-front (w ∷ ws) rest good h =
+    let g = h [] w ws refl in
+    known-kind (w % 16) _ (g .0) ∙ (some-length (len w) _ (λ e. omega arith) ∙ pass-front ws rest good (one-less h))
+
+-- all of them where there is no other,
+pass-all : (ops : List ℕ) (good : Walk) → Faultless ops → faultOr ops good ≡ good
+unfolding faultOr
+pass-all ops good h = rw append-nil at (pass-front ops [] good h)
+
+-- and stops at the first that is faulty:
+stop-at : {fault : ℕ → Type 0} {ops : List ℕ} (good : Walk) (f : FirstFault fault ops)
+    → faultOr ops good ≡ onKind (kind (f .op)) (onLength (len (f .op)) (faultOr (f .after) good))
+unfolding faultOr
+stop-at good f = ap (λ (l : List ℕ). faultOr l good) (f .split) ∙ pass-front (f .before) (f .op ∷ f .after) good (f .passed)
+
+-- at its code,
+stop-code : (ops : List ℕ) (good : Walk) → FirstFault BadCode ops → faultOr ops good ≡ UnknownCode
+stop-code ops good f = stop-at good f ∙ rw (kind-bad (f .op % 16) (f .faulty))
+
+-- or at its length
+stop-length : (ops : List ℕ) (good : Walk) → FirstFault BadLength ops → faultOr ops good ≡ ZeroLength
+stop-length ops good f = stop-at good f ∙ (known-kind (f .op % 16) _ (f .faulty .0) ∙ rw (f .faulty .1))
+
+-- there is a first faulty operation, or none is
+first-fault : (ops : List ℕ) → FirstFault BadCode ops ⊎ (FirstFault BadLength ops ⊎ Faultless ops)
+first-fault [] = inr (inr none-faulty)
+first-fault (w ∷ ws) = go (first-fault ws) (lt-or-le 8 (w % 16)) (lt-or-le 0 (len w))
+  where
+    here : {fault : ℕ → Type 0} → fault w → FirstFault fault (w ∷ ws)
+    here h = record { before = []; op = w; after = ws; split = refl; passed = none-faulty; faulty = h }
+
+    later : {fault : ℕ → Type 0} → w % 16 ≤ 8 → 0 < len w → FirstFault fault ws → FirstFault fault (w ∷ ws)
+    later c n f =
+        record {
+          before = w ∷ f .before;
+          op = f .op;
+          after = f .after;
+          split = ap (λ (l : List ℕ). w ∷ l) (f .split);
+          passed = one-more c n (f .passed);
+          faulty = f .faulty;
+        }
+
+    go : FirstFault BadCode ws ⊎ (FirstFault BadLength ws ⊎ Faultless ws) → (8 < w % 16) ⊎ (w % 16 ≤ 8) → (0 < len w) ⊎ (len w ≤ 0)
+        → FirstFault BadCode (w ∷ ws) ⊎ (FirstFault BadLength (w ∷ ws) ⊎ Faultless (w ∷ ws))
+    go r (inl c) n = inl (here c)
+    go r (inr c) (inr n) = inr (inl (here (c, omega arith)))
+    go (inl f) (inr c) (inl n) = inl (later c n f)
+    go (inr (inl f)) (inr c) (inl n) = inr (inl (later c n f))
+    go (inr (inr h)) (inr c) (inl n) = inr (inr (one-more c n h))
+
+-- ---- the answers
+-- each answer, with what it is given for
+data Given (count : ℕ) (ops : List ℕ) (place : ℕ) : Operations → Type 0 where
+  by-code : FirstFault BadCode ops → Given count ops place (Ops.Refused (OperationCode place))
+  by-length : FirstFault BadLength ops → Given count ops place (Ops.Refused (OperationLength place))
+  by-total : Faultless ops → BadTotal count ops → Given count ops place (Ops.Refused (ReadTotal place))
+  passes : Faultless ops → (BadTotal count ops → ⊥) → Given count ops place (Ops.Uses (refSum ops))
+
+-- the reason of an answer
+code-of : {count : ℕ} {ops : List ℕ} {place at : ℕ} → Given count ops place (Ops.Refused (OperationCode at)) → FirstFault BadCode ops
+code-of (by-code f) = f
+
+length-of : {count : ℕ} {ops : List ℕ} {place at : ℕ} → Given count ops place (Ops.Refused (OperationLength at)) → FirstFault BadLength ops
+length-of (by-length f) = f
+
+total-of : {count : ℕ} {ops : List ℕ} {place at : ℕ} → Given count ops place (Ops.Refused (ReadTotal at)) → Faultless ops × BadTotal count ops
+total-of (by-total h t) = (h, t)
+
+uses-of : {count : ℕ} {ops : List ℕ} {place n : ℕ} → Given count ops place (Ops.Uses n) → Faultless ops × (BadTotal count ops → ⊥) × (n ≡ refSum ops)
+uses-of (passes h t) = (h, t, refl)
+
+-- whether the read total is wrong, and what the test says of it
+abbrev Tested : ℕ → List ℕ → Bool → Type 0
+Tested count ops t = (BadTotal count ops × (t ≡ true)) ⊎ ((BadTotal count ops → ⊥) × (t ≡ false))
+
+total-tested : (count : ℕ) (ops : List ℕ) → Tested count ops (ltb 0 count && ltb 0 (length ops) && not (eqb (readSum ops) count))
+total-tested count ops = go (ltb 0 count) (ltb 0 (length ops)) (eqb (readSum ops) count) refl refl refl
+  where
+    go : (a b c : Bool) → ltb 0 count ≡ a → ltb 0 (length ops) ≡ b → eqb (readSum ops) count ≡ c → Tested count ops (a && b && not c)
+    go true true true d e f = inr (λ t. t .2 (eqb-true (readSum ops) count f), refl)
+    go true true false d e f = inl ((ltb-true 0 count d, ltb-true 0 (length ops) e, eqb-false (readSum ops) count f), refl)
+    go true false c d e f = inr (λ t. omega (arith, t .1, ltb-false 0 (length ops) e), refl)
+    go false b c d e f = inr (λ t. omega (arith, t .0, ltb-false 0 count d), refl)
+
+module _ (y : Layout) (s : List ℕ) (place : ℕ) where
+  -- the walk's answer judged
+  answer-of : (w : Walk) → walkOf (opsIn y s) ≡ w → operationsOf y s place ≡ judged (y .count) (length (opsIn y s)) place w
+  unfolding operationsOf
+  answer-of w e = ap (judged (y .count) (length (opsIn y s)) place) e
+
+  -- where a condition holds, its answer is given
+  code-given : FirstFault BadCode (opsIn y s) → operationsOf y s place ≡ Ops.Refused (OperationCode place)
+  code-given f = answer-of UnknownCode (stop-code (opsIn y s) _ f)
+
+  length-given : FirstFault BadLength (opsIn y s) → operationsOf y s place ≡ Ops.Refused (OperationLength place)
+  length-given f = answer-of ZeroLength (stop-length (opsIn y s) _ f)
+
+  -- without a faulty operation the read total decides
+  totals-of : Faultless (opsIn y s)
+      → operationsOf y s place ≡ judged (y .count) (length (opsIn y s)) place (Totals (readSum (opsIn y s)) (refSum (opsIn y s)))
+  totals-of h = answer-of (Totals (readSum (opsIn y s)) (refSum (opsIn y s))) (pass-all (opsIn y s) _ h)
+
+  total-given : Faultless (opsIn y s) → BadTotal (y .count) (opsIn y s) → operationsOf y s place ≡ Ops.Refused (ReadTotal place)
+  total-given h t = totals-of h ∙ ⊎-elim (λ w. rw (w .1)) (λ w. absurd (w .0 t)) (total-tested (y .count) (opsIn y s))
+
+  uses-given : Faultless (opsIn y s) → (BadTotal (y .count) (opsIn y s) → ⊥) → operationsOf y s place ≡ Ops.Uses (refSum (opsIn y s))
+  uses-given h t = totals-of h ∙ ⊎-elim (λ w. absurd (t (w .0))) (λ w. rw (w .1)) (total-tested (y .count) (opsIn y s))
+
+  -- one of the answers is given, for its reason
+  given : Given (y .count) (opsIn y s) place (operationsOf y s place)
+  given = go (first-fault (opsIn y s)) (total-tested (y .count) (opsIn y s))
+    where
+      go : FirstFault BadCode (opsIn y s) ⊎ (FirstFault BadLength (opsIn y s) ⊎ Faultless (opsIn y s))
+          → Tested (y .count) (opsIn y s) (ltb 0 (y .count) && ltb 0 (length (opsIn y s)) && not (eqb (readSum (opsIn y s)) (y .count)))
+          → Given (y .count) (opsIn y s) place (operationsOf y s place)
+      go (inl f) t = rw (code-given f) (by-code f)
+      go (inr (inl f)) t = rw (length-given f) (by-length f)
+      go (inr (inr h)) (inl t) = rw (total-given h (t .0)) (by-total h (t .0))
+      go (inr (inr h)) (inr t) = rw (uses-given h (t .0)) (passes h (t .0))
+
+  -- whatever the answer is, it is given for its reason
+  given-as : {r : Operations} → operationsOf y s place ≡ r → Given (y .count) (opsIn y s) place r
+  given-as e = rw e at given
+
+  -- refusals 5 to 7 are given exactly when the document says, and there is no other answer
+  pub operations-exact : GivenExactly (y .count) (opsIn y s) place (operationsOf y s place)
+  operations-exact =
+      record {
+        code = (λ e. code-of (given-as e), code-given);
+        length = (λ e. length-of (given-as e), length-given);
+        total = (λ e. total-of (given-as e), λ h. total-given (h .0) (h .1));
+        uses = λ n. (λ e. uses-of (given-as e), λ h. uses-given (h .0) (h .1) ∙ ap Ops.Uses (sym (h .2)));
+        decided = one-of given;
+      }
+    where
+      one-of : {r : Operations} → Given (y .count) (opsIn y s) place r
+          → (r ≡ Ops.Refused (OperationCode place)) ⊎ ((r ≡ Ops.Refused (OperationLength place))
+          ⊎ ((r ≡ Ops.Refused (ReadTotal place)) ⊎ (r ≡ Ops.Uses (refSum (opsIn y s)))))
+      one-of (by-code f) = inl refl
+      one-of (by-length f) = inr (inl refl)
+      one-of (by-total h t) = inr (inr (inl refl))
+      one-of (passes h t) = inr (inr (inr refl))
