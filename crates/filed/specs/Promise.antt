@@ -1,5 +1,5 @@
 -- What a reader is promised of filed groups: nothing is written unless one is corrected, a torn output is refused, and a whole one is known.
-use Prim.Native.Nat.{ℕ, _<_}
+use Prim.Native.Nat.{ℕ, _+_, _<_}
 use mathlib.Core.Bool.{false}
 use mathlib.Core.List.{List}
 use mathlib.Core.Path.{_≡_}
@@ -7,6 +7,10 @@ use lib.ListN.{length, take}
 use Rattle.refusal.specs.declared.Refusal.{Refusal}
 use Rattle.stats.specs.declared.CorrectionStats.{CorrectionStats}
 use Rattle.stats.specs.Counts.{plus, full}
+use Rattle.frames.specs.Frame.{beginOf}
+use Rattle.ending.specs.declared.Ending.the-variants.{At}
+use Rattle.ending.specs.Ending.{endingOf}
+use Rattle.trailer.specs.Trailer.{trailerAt, wrong}
 use Rattle.filed.specs.declared.FiledAnswer.{FiledAnswer}
 use Rattle.filed.specs.declared.FiledAnswer.the-variants.{Corrected, AlreadyDone, Refused}
 use Rattle.filed.specs.Filed.{Ended, ended, filedOf}
@@ -27,6 +31,19 @@ pub record Torn (x : List ℕ) : Type 0 where
 -- the bytes z are answered "already done" with n records and the growth h, and neither output nor counts change
 pub record Known (z : List ℕ) (n : ℕ) (h : CorrectionStats) : Type 0 where
   pub known : (out : List ℕ) (g : CorrectionStats) → full g ≡ false → filedOf z out g ≡ ended (AlreadyDone n h) out g
+
+-- n frames and a trailer of 50 bytes are all of s, no field of the trailer is wrong, and it says "corrected" with the growth h
+pub record MarkedDone (s : List ℕ) (n : ℕ) (h : CorrectionStats) : Type 0 where
+  pub ends : endingOf s ≡ At n
+  pub size : length s ≡ beginOf s n + 50
+  pub right : wrong (trailerAt s (beginOf s n)) n (beginOf s n) ≡ false
+  pub state : trailerAt s (beginOf s n) .state ≡ 1
+  pub growth : h ≡ trailerAt s (beginOf s n) .growth
+
+-- the trailer behind the n frames of s says "raw", whatever else it says
+pub record MarkedRaw (s : List ℕ) (n : ℕ) : Type 0 where
+  pub ends : endingOf s ≡ At n
+  pub state : trailerAt s (beginOf s n) .state ≡ 0
 
 -- z is what a call wrote for n records with the growth h: no proper front of it passes, and all of it is known
 pub record Safe (z : List ℕ) (n : ℕ) (h : CorrectionStats) : Type 0 where
