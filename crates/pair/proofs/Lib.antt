@@ -1,3 +1,4 @@
 pub mod CallLaws
 pub mod PromiseLaws
+pub mod MeetLaws
 pub mod Worked

@@ -1,16 +1,18 @@
 -- The document's judged examples that are to be proved, as one table. Places after "at" are counted from 1.
 use Prim.Native.Nat.{ℕ, _+_, _*_}
 use mathlib.Core.Path.{_≡_}
-use mathlib.Core.List.{List, [], _∷_}
+use mathlib.Core.List.{List, [], _∷_, List·Memᴰ as In}
+use mathlib.Core.Logic.{_↔_}
+use Rattle.fields.specs.declared.RefPos.{RefPos}
+use Rattle.fields.specs.declared.ReadOffset.{ReadOffset}
 use Rattle.bases.specs.Code.{code, N}
 use Rattle.stats.specs.Counts.{counts}
 use Rattle.strategy.specs.declared.AgreementStrategy.the-variants as Agree
 use Rattle.strategy.specs.declared.DisagreementStrategy.the-variants as Differ
 use Rattle.strategy.specs.declared.Strategies.{Strategies}
 use Rattle.strategy.specs.Rule.{out, treated}
-use Rattle.cigar.specs.Operation.{readSum, refSum}
-use Rattle.cigar.specs.Found.{baseOn}
-use Rattle.merge.specs.Shared.{pairs}
+use Rattle.cigar.specs.Operation.{readSum}
+use Rattle.cigar.specs.Place.{Sits}
 
 abbrev pub baseA : ℕ
 baseA = code "A"
@@ -37,9 +39,14 @@ opD n = n * 16 + 2
 abbrev pub opS : ℕ → ℕ
 opS n = n * 16 + 4
 
--- the offsets at the shared positions of two alignments
-unfoldable pub sharedBy : List ℕ → ℕ → List ℕ → ℕ → List (ℕ × ℕ)
-sharedBy x p y q = pairs (baseOn (readSum x) x p) (baseOn (readSum y) y q) p (refSum x)
+-- the position n, counted from 1
+abbrev pub at : ℕ → RefPos
+at n = record { 0 = n }
+
+-- The alignments x from p on and y from q on, each of as many bases as it uses: base i of x and base j of y sit at position r exactly
+-- where i, j, r is in the list (`In` is the library's membership).
+abbrev pub MeetAt : List ℕ → RefPos → List ℕ → RefPos → List (ℕ × ℕ × ℕ) → Type 0
+MeetAt x p y q l = (i j : ReadOffset) (r : RefPos) → (Sits (readSum x) x p i r × Sits (readSum y) y q j r) ↔ In (i .0, j .0, r .0) l
 
 unfoldable pub Examples : Type 0
 Examples =
@@ -57,6 +64,6 @@ Examples =
     -- MaskLowerQual
     × (treated maskLower baseT 10 baseA 30 ≡ out N 2 baseA 30 (counts 1 0 1 1))
     -- places
-    × (sharedBy (opS 2 ∷ opM 3 ∷ opD 1 ∷ opM 2 ∷ []) 10 (opM 2 ∷ opI 1 ∷ opM 3 ∷ []) 12 ≡ (4, 0) ∷ (5, 3) ∷ (6, 4) ∷ [])
-    × (sharedBy (opM 4 ∷ []) 10 (opM 1 ∷ []) 13 ≡ (3, 0) ∷ [])
-    × (sharedBy (opM 4 ∷ []) 10 (opM 1 ∷ []) 14 ≡ [])
+    × MeetAt (opS 2 ∷ opM 3 ∷ opD 1 ∷ opM 2 ∷ []) (at 10) (opM 2 ∷ opI 1 ∷ opM 3 ∷ []) (at 12) ((4, 0, 12) ∷ (5, 3, 14) ∷ (6, 4, 15) ∷ [])
+    × MeetAt (opM 4 ∷ []) (at 10) (opM 1 ∷ []) (at 13) ((3, 0, 13) ∷ [])
+    × MeetAt (opM 4 ∷ []) (at 10) (opM 1 ∷ []) (at 14) []
