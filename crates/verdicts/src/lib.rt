@@ -43,26 +43,23 @@ fn spanned(p: Span) -> Verdict
     }
 }
 
-// Two sound records on one reference, at positions p and q: what each covers judged, the first's
-// first.
-fn spans_of(
-    first: &[u8],
-    second: &[u8],
-    y: Layout,
-    z: Layout,
-    p: u32,
-    q: u32,
-    i: u16,
-    j: u16,
-) -> Verdict
-    requires { ⌜ Sound (now first) y × Sound (now second) z ⌝ }
-    ensures { λ r. ⌜ r ≡ ofJudged (onSpan (spanIn y (now (first .entry)) p i) (λ (s : Extent). onSpan (spanIn z (now (second .entry)) q j) (λ (t : Extent). Judged.Both s t))) ⌝ }
+// A sound record on a reference: its layout, its position, and its index in the group.
+struct Side {
+    layout: Layout,
+    pos: u32,
+    index: u16,
+}
+
+// Two sound records on one reference: what each covers judged, the first's first.
+fn spans_of(first: &[u8], second: &[u8], a: Side, b: Side) -> Verdict
+    requires { ⌜ Sound (now first) (a .layout) × Sound (now second) (b .layout) ⌝ }
+    ensures { λ r. ⌜ r ≡ ofJudged (onSpan (spanIn (a .layout) (now (first .entry)) (a .pos) (a .index)) (λ (s : Extent). onSpan (spanIn (b .layout) (now (second .entry)) (b .pos) (b .index)) (λ (t : Extent). Judged.Both s t))) ⌝ }
 {
-    let span1 = judgement::span_of(first, y, p, i);
+    let span1 = judgement::span_of(first, a.layout, a.pos, a.index);
     let Span::Covers(_) = span1 else {
         return spanned(span1);
     };
-    let span2 = judgement::span_of(second, z, q, j);
+    let span2 = judgement::span_of(second, b.layout, b.pos, b.index);
     spanned(span2)
 }
 
@@ -82,7 +79,17 @@ fn judge_pair(first: &[u8], second: &[u8], i: u16, j: u16) -> Verdict
     let Where::On(p, q) = at else {
         return Verdict::Passed;
     };
-    spans_of(first, second, y, z, p, q, i, j)
+    let a = Side {
+        layout: y,
+        pos: p,
+        index: i,
+    };
+    let b = Side {
+        layout: z,
+        pos: q,
+        index: j,
+    };
+    spans_of(first, second, a, b)
 }
 
 // Records i and j of a group judged as a pair.

@@ -21,11 +21,10 @@ unchecked-requires c κs = search needs
 
 returns : tie.Need-returns
 returns c =
-    let by-enum-told = c .before in
-    let by-check-record = by-enum-told .before .before in
+    let by-check-record = c .before .before .before in
     let entry = by-check-record .before .before .before in
     let args = entry .args in
-    c .unchecked .ensures ∙ first-bad (now (args .first)) (now (args .second)) (args .i) (args .j) (by-check-record .check-record .result) _ (by-check-record .check-record .ensures) (by-enum-told .enum-told .given .1)
+    c .unchecked .ensures ∙ first-bad (now (args .first)) (now (args .second)) (args .i) (args .j) (by-check-record .check-record .result) _ (by-check-record .check-record .ensures) (c .before .enum-told .given .1)
 
 check-record-requires-2 : tie.Need-check-record-requires-2
 check-record-requires-2 c κs = search needs
@@ -41,23 +40,21 @@ unchecked-requires-2 c κs = search needs
 
 returns-2 : tie.Need-returns-2
 returns-2 c =
-    let by-enum-told2 = c .before in
-    let by-check-record2 = by-enum-told2 .before .before in
+    let by-check-record2 = c .before .before .before in
     let by-checked1 = by-check-record2 .before .before in
     let by-check-record = by-checked1 .before .before in
     let entry = by-check-record .before .before .before in
     let args = entry .args in
-    c .unchecked2 .ensures ∙ second-bad (now (args .first)) (now (args .second)) (args .i) (args .j) (by-checked1 .checked1 .given .0 .0) (sym (by-check-record .check-record .ensures) ∙ by-checked1 .checked1 .given .1) (by-check-record2 .check-record2 .result) _ (by-check-record2 .check-record2 .ensures) (by-enum-told2 .enum-told2 .given .1)
+    c .unchecked2 .ensures ∙ second-bad (now (args .first)) (now (args .second)) (args .i) (args .j) (by-checked1 .checked1 .given .0 .0) (sym (by-check-record .check-record .ensures) ∙ by-checked1 .checked1 .given .1) (by-check-record2 .check-record2 .result) _ (by-check-record2 .check-record2 .ensures) (c .before .enum-told2 .given .1)
 
 place-requires : tie.Need-place-requires
 place-requires c κs =
-    let by-checked2 = c .before in
-    let by-check-record2 = by-checked2 .before .before in
+    let by-check-record2 = c .before .before .before in
     let by-checked1 = by-check-record2 .before .before in
     let by-check-record = by-checked1 .before .before in
     let entry = by-check-record .before .before .before in
     let args = entry .args in
-    ((good-sound _ (args .i) (by-checked1 .checked1 .given .0 .0) (sym (by-check-record .check-record .ensures) ∙ by-checked1 .checked1 .given .1)) .fixed, (good-sound _ (args .j) (by-checked2 .checked2 .given .0 .0) (sym (by-check-record2 .check-record2 .ensures) ∙ by-checked2 .checked2 .given .1)) .fixed)
+    ((good-sound _ (args .i) (by-checked1 .checked1 .given .0 .0) (sym (by-check-record .check-record .ensures) ∙ by-checked1 .checked1 .given .1)) .fixed, (good-sound _ (args .j) (c .before .checked2 .given .0 .0) (sym (by-check-record2 .check-record2 .ensures) ∙ c .before .checked2 .given .1)) .fixed)
 
 enum-known-at : tie.Need-enum-known-at
 enum-known-at c = search needs

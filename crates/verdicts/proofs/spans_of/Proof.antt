@@ -21,11 +21,10 @@ spanned-requires c κs = search needs
 
 returns : tie.Need-returns
 returns c =
-    let by-enum-told2 = c .before in
-    let by-span-of = by-enum-told2 .before .before in
+    let by-span-of = c .before .before .before in
     let entry = by-span-of .before .before .before in
     let args = entry .args in
-    c .spanned .ensures ∙ first-refused (by-span-of .span-of .result) (spanIn (args .z) (now (args .second)) (args .q) (args .j)) (spanIn (args .y) (now (args .first)) (args .p) (args .i)) _ (by-span-of .span-of .ensures) (by-enum-told2 .enum-told2 .given .1)
+    c .spanned .ensures ∙ first-refused (by-span-of .span-of .result) (spanIn (args .b .layout) (now (args .second)) (args .b .pos) (args .b .index)) (spanIn (args .a .layout) (now (args .first)) (args .a .pos) (args .a .index)) _ (by-span-of .span-of .ensures) (c .before .enum-told2 .given .1)
 
 span-of-requires-2 : tie.Need-span-of-requires-2
 span-of-requires-2 c κs = search needs
@@ -35,12 +34,11 @@ spanned-requires-2 c κs = search needs
 
 returns-2 : tie.Need-returns-2
 returns-2 c =
-    let by-span-of2 = c .before in
-    let by-enum-told = by-span-of2 .before in
+    let by-enum-told = c .before .before in
     let by-span-of = by-enum-told .before .before in
     let entry = by-span-of .before .before .before in
     let args = entry .args in
-    c .spanned2 .ensures ∙ second-decides (by-span-of .span-of .result) (by-span-of2 .span-of2 .result) (spanIn (args .y) (now (args .first)) (args .p) (args .i)) (spanIn (args .z) (now (args .second)) (args .q) (args .j)) _ (by-span-of .span-of .ensures) (by-enum-told .enum-told .given .1) (by-span-of2 .span-of2 .ensures)
+    c .spanned2 .ensures ∙ second-decides (by-span-of .span-of .result) (c .before .span-of2 .result) (spanIn (args .a .layout) (now (args .first)) (args .a .pos) (args .a .index)) (spanIn (args .b .layout) (now (args .second)) (args .b .pos) (args .b .index)) _ (by-span-of .span-of .ensures) (by-enum-told .enum-told .given .1) (c .before .span-of2 .ensures)
 
 pub spans-of-spec : {M : Type 1} → statement M
 spans-of-spec =
