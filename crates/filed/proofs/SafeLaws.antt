@@ -1,6 +1,6 @@
 -- What a call wrote is known for corrected, and no proper front of it passes. Assumes nothing.
 use Prim.Native.Nat.{ℕ, _+_, _/_, _%_, _<_, _≤_}
-use mathlib.Core.Path.{_≡_, refl, sym, _∙_, ap}
+use mathlib.Core.Path.{_≡_, refl, sym, _∙_, ap, subst}
 use mathlib.Core.Bool.{Bool, true, false, cond}
 use mathlib.Core.List.{List, _++_}
 use native.Mathlib.Omega.{arith}
@@ -22,8 +22,8 @@ use Rattle.writing.proofs.GrowthLaws.{all-most}
 use Rattle.group.specs.declared.GroupAnswer.the-variants as Groups
 use Rattle.group.specs.Group as Group
 use Rattle.group.specs.Promise.{Accepted}
-use Rattle.group.proofs.PromiseLaws.{accepted, done-grown}
-use Rattle.group.proofs.KeptLaws.{frames-stay, done-by}
+use Rattle.group.proofs.PromiseLaws.{accepted, accepted-grown}
+use Rattle.group.proofs.KeptLaws.{frames-stay}
 use Rattle.ending.specs.declared.Ending.{Ending}
 use Rattle.ending.specs.declared.Ending.the-variants.{At, Missing, Broken}
 use Rattle.ending.specs.Ending.{endingOf}
@@ -95,12 +95,17 @@ module _ (s : List ℕ) (m : ℕ) (ends : endingOf s ≡ At m) (size : length s 
       ∙ ap (unsigned 4 s) z ∙ zero-left s p (ends-of s m ends .zero) .1
 
   module _ (n q o : ℕ) (u : List ℕ) (h : CorrectionStats) (b : ℕ) (group : groupIn s p b ≡ Group.ended (Groups.Done n q o) u h) where
-    -- what the group call gives for the frames
-    given : (w : Strategies) × (Group.framedOf w (take p s) zeroed ≡ Group.ended (Groups.Done n q o) u h)
-    given = done-by (b / 3) (b % 3) (take p s) zeroed n q o u h group
+    -- what the group call gives for the frames, by the strategies w
+    given : (w : Strategies) × Accepted w (take p s) zeroed n q o u h
+    given =
+        let a = accepted (b / 3) (b % 3) (take p s) zeroed n q o (ap (λ (x : Group.Ended). Group.groupNumbers (x .answer)) group) in
+        (a .0, subst (λ (x : Group.Ended). Accepted (a .0) (take p s) zeroed n q o (x .bytes) (x .stats)) group (a .3))
 
-    call : Accepted (given .0) (take p s) zeroed n q o u h
-    call = accepted (given .0) (take p s) zeroed n q o u h (given .1)
+    abbrev w : Strategies
+    w = given .0
+
+    call : Accepted w (take p s) zeroed n q o u h
+    call = given .1
 
     same-records : m ≡ n
     same-records = let e : Whole m ≡ Whole n = sym (before-whole s m (ends-of s m ends)) ∙ call .framed in cc
@@ -110,9 +115,9 @@ module _ (s : List ℕ) (m : ℕ) (ends : endingOf s ≡ At m) (size : length s 
 
     few-counts : AtMost 18446744073709551615 h
     few-counts =
-        let e = done-grown (given .0) (take p s) zeroed n q o u h (given .1) in
+        let e = accepted-grown w (take p s) zeroed n q o u h call in
         most-less 16777216 18446744073709551615 h (omega arith)
-        (rw e (all-most (given .0) (take p s) n (omega (arith, same-records, ends-of s m ends .few))))
+        (rw e (all-most w (take p s) n (omega (arith, same-records, ends-of s m ends .few))))
 
     abbrev z : List ℕ
     z = correctedWith s p u h
@@ -122,7 +127,7 @@ module _ (s : List ℕ) (m : ℕ) (ends : endingOf s ≡ At m) (size : length s 
 
     corrected-ends : Ends z n × (beginOf z n ≡ length u)
     corrected-ends =
-        whole-ends u (stamped t h) n (frames-stay (given .0) (take p s) zeroed n q o u h call)
+        whole-ends u (stamped t h) n (frames-stay w (take p s) zeroed n q o u h call)
         (omega (arith, stamped-size t h, trailer-length)) (stamped-zero t h ∙ trailer-zero)
 
     corrected-trailer : trailerAt z (length u) ≡ trailer 1 (trailerAt s p .strategies) (trailerAt s p .records) h (trailerAt s p .distance)

@@ -2,7 +2,6 @@
 use Prim.Native.Nat.{ℕ, suc, _+_, _-_, _<_, _≤_}
 use mathlib.Core.Path.{_≡_, sym, _∙_, ap}
 use mathlib.Core.List.{List}
-use mathlib.Core.Bool.{Bool, true, false, cond}
 use mathlib.Core.Logic.{inl, inr, ⊎-elim}
 use native.Mathlib.Omega.{arith}
 use lib.ListN.{length, getD, take}
@@ -12,8 +11,6 @@ use Rattle.fields.proofs.Arith.{lt-or-le}
 use Rattle.fields.proofs.NumberLaws.{le-same}
 use Rattle.fields.proofs.CheckLaws.{good-sound}
 use Rattle.fields.specs.Layout.{layoutOf}
-use Rattle.refusal.specs.declared.Refusal.{Refusal}
-use Rattle.refusal.specs.declared.Refusal.the-variants as Why
 use Rattle.stats.specs.declared.CorrectionStats.{CorrectionStats}
 use Rattle.strategy.specs.declared.Strategies.{Strategies}
 use Rattle.merge.specs.Promise.{Outside}
@@ -26,12 +23,6 @@ use Rattle.frames.proofs.FrameLaws.{to-framed}
 use Rattle.frames.proofs.CleanLaws.{whole-clean, begin-alike, clean-alike, clean-whole}
 use Rattle.mates.specs.Register.{pairsOf}
 use Rattle.mates.proofs.MateLaws.{among-mates, mates-among}
-use Rattle.stats.specs.Counts.{full}
-use Rattle.strategy.specs.declared.Numbered.{Numbered}
-use Rattle.strategy.specs.declared.Numbered.the-variants as Numbers
-use Rattle.strategy.specs.Number.{numberedOf}
-use Rattle.group.specs.declared.GroupAnswer.the-variants.{Done, Refused}
-use Rattle.group.specs.Group.{Ended, ended, framedOf, onNumbered, groupOf}
 use Rattle.group.specs.Promise.{Elsewhere, Accepted}
 use Rattle.group.proofs.PromiseLaws.{Spot, in-first, in-second, in-none, locate, byte-in}
 use Rattle.group.proofs.ByteLaws.{first-outside, second-outside}
@@ -102,22 +93,3 @@ module _ (w : Strategies) (s : List ℕ) (g : CorrectionStats) (n p o : ℕ) (u 
       let sizes : (k : ℕ) → k < n → unsigned 4 u (beginOf s k) ≡ unsigned 4 s (beginOf s k) = λ k l. sizes-stay k in
       clean-whole u n (clean-alike s u n (c .1 .0) fit sizes headers-stay)
       (begin-alike s u n (c .1 .0) fit sizes headers-stay n (omega arith) ∙ c .1 .1 ∙ sym (a .size)) (c .0)
-
--- ---- a group that the call accepts, by the strategies of two numbers
-no-done : (r : Refusal) (s : List ℕ) (g : CorrectionStats) (n p o : ℕ) (u : List ℕ) (h : CorrectionStats) → ended (Refused r) s g ≡ ended (Done n p o) u h → ⊥
-no-done r s g n p o u h e =
-    let f : Refused r ≡ Done n p o = ap (λ (x : Ended). x .answer) e in
-    let z : _≡_ {A = ℕ} 0 1 = cc in omega arith
-
-pub done-by : (m k : ℕ) (s : List ℕ) (g : CorrectionStats) (n p o : ℕ) (u : List ℕ) (h : CorrectionStats) → groupOf m k s g ≡ ended (Done n p o) u h
-    → (w : Strategies) × (framedOf w s g ≡ ended (Done n p o) u h)
-unfolding groupOf
-done-by m k s g n p o u h e = numbered (numberedOf m k) e
-  where
-    counts : (w : Strategies) (t : Bool) → cond t (ended (Refused Why.Count) s g) (framedOf w s g) ≡ ended (Done n p o) u h → (x : Strategies) × (framedOf x s g ≡ ended (Done n p o) u h)
-    counts w true d = absurd (no-done Why.Count s g n p o u h d)
-    counts w false d = (w, d)
-
-    numbered : (a : Numbered) → onNumbered s g a ≡ ended (Done n p o) u h → (x : Strategies) × (framedOf x s g ≡ ended (Done n p o) u h)
-    numbered (Numbers.Refused r) d = absurd (no-done r s g n p o u h d)
-    numbered (Numbers.Are w) d = counts w (full g) d

@@ -1,9 +1,9 @@
--- The group call keeps its promise, and no second outcome does.
-use Prim.Native.Nat.{ℕ, zero, suc, _+_, _-_, _<_, _≤_}
-use mathlib.Core.Path.{_≡_, refl, sym, _∙_, ap, ap₂}
+-- The group call keeps its promise, from the whole call on, and no second outcome does.
+use Prim.Native.Nat.{ℕ, _+_, _-_, _<_, _≤_}
+use mathlib.Core.Path.{_≡_, refl, sym, _∙_, ap, subst, subst₂}
 use mathlib.Core.List.{List, [], _∷_}
-use mathlib.Core.Bool.{Bool, true, false, cond}
-use mathlib.Core.Logic.{_⊎_, inl, inr, ⊎-elim}
+use mathlib.Core.Bool.{Bool, true, false}
+use mathlib.Core.Logic.{_⊎_, inl, inr, ⊎-elim, _↔_}
 use native.Mathlib.Omega.{arith}
 use borrow.Author.Tests.{eqb-true}
 use lib.Dec.{eqb}
@@ -11,36 +11,36 @@ use lib.ListN.{length, getD, drop}
 use lib.Seq.{ext-getD, getD-take, getD-drop}
 use Rattle.fields.proofs.Arith.{lt-or-le}
 use Rattle.refusal.specs.declared.Refusal.{Refusal}
-use Rattle.refusal.specs.declared.Refusal.the-variants as Why
+use Rattle.refusal.specs.declared.Refusal.the-variants.{Count, Strategy}
+use Rattle.refusal.specs.Table.{numberOf, placeOf}
 use Rattle.stats.specs.declared.CorrectionStats.{CorrectionStats}
 use Rattle.stats.specs.Counts.{plus, full}
 use Rattle.stats.proofs.CountLaws.{plus-assoc, plus-zero}
 use Rattle.strategy.specs.declared.Strategies.{Strategies}
-use Rattle.strategy.specs.declared.Numbered.{Numbered}
 use Rattle.strategy.specs.declared.Numbered.the-variants as Numbers
 use Rattle.strategy.specs.Number.{numberedOf}
-use Rattle.pair.specs.declared.Answer.{Answer}
 use Rattle.pair.specs.declared.Answer.the-variants as Answers
 use Rattle.frames.specs.Part.{part}
-use Rattle.frames.specs.declared.Framing.{Framing}
-use Rattle.frames.specs.declared.Framing.the-variants.{Whole, Broken}
+use Rattle.frames.specs.declared.Framing.the-variants.{Whole}
 use Rattle.frames.specs.Frame.{beginOf, startOf, endOf, framesOf}
 use Rattle.frames.proofs.CleanLaws.{whole-clean}
-use Rattle.mates.specs.Register.{matesOf, mateCons, pairsFrom, pairsOf}
+use Rattle.mates.specs.Register.{pairsOf}
 use Rattle.fields.specs.Among.{Among}
 use Rattle.fields.proofs.AmongLaws.{here, later, among-cons, among-none}
 use Rattle.mates.specs.Promise.{Mates, one, times}
 use Rattle.mates.proofs.OnceLaws.{pairs-once}
-use Rattle.mates.proofs.MateLaws.{Made, mate-mates, mates-mate, among-mates, mates-among}
+use Rattle.mates.proofs.MateLaws.{among-mates, mates-among}
 use Rattle.verdicts.specs.declared.Verdict.{Verdict}
 use Rattle.verdicts.specs.declared.Verdict.the-variants as Verdicts
-use Rattle.verdicts.specs.Judged.{pairAt, atIndex, answered, verdictAt, onVerdict, judgeBy}
-use Rattle.applying.specs.Applied.{written, grown, overlapsIn}
+use Rattle.verdicts.specs.Judged.{pairAt}
+use Rattle.applying.specs.Applied.{grown, overlapsIn}
 use Rattle.applying.proofs.WrittenLaws.{written-size, written-first, written-second, written-out}
-use Rattle.group.specs.declared.GroupAnswer.{GroupAnswer}
 use Rattle.group.specs.declared.GroupAnswer.the-variants.{Done, Refused}
-use Rattle.group.specs.Group.{Ended, ended, onPairs, onFrames, framedOf, onNumbered, groupOf}
-use Rattle.group.specs.Promise.{Paired, Elsewhere, pairGrowths, Accepted, FirstRefused}
+use Rattle.group.specs.Group.{groupNumbers, Ended, ended, onPairs, onFrames, groupOf}
+use Rattle.group.specs.Promise.{Paired, Elsewhere, pairGrowths, Accepted, FirstRefused, FirstFailed, by-strategies, by-counts, by-frames, by-pair}
+use Rattle.group.proofs.NamedLaws.{same-length, same-overlaps, same-growths}
+use Rattle.group.proofs.FirstLaws.{judgement, judged-first, judged-passed, passed-judged, first-judged}
+use Rattle.group.proofs.CaseLaws.{Case, no-strategies, full-counts, broken-frames, refused-pair, all-treated, cases, ends-unnamed, ends-full, ends-framed, ends-judged}
 
 -- ---- the pairs
 pub paired : (s : List ℕ) (n : ℕ) → Paired s n (pairsOf s n)
@@ -58,22 +58,6 @@ times-among (e ∷ l) k h = go (times-among l k) (eqb (e .0) k) refl (eqb (e .1)
     go up false a true b q = inr (e .0, rw (sym (eqb-true (e .1) k b)) (here e l))
     go up false a false b q = ⊎-elim (λ y. inl (y .0, later e l _ _ (y .1))) (λ y. inr (y .0, later e l _ _ (y .1))) (up (omega arith))
 
--- ---- all pairs pass
-no-refusal : (r : Refusal) → Verdicts.Refused r ≡ Verdicts.Passed → ⊥
-no-refusal r e = let z : _≡_ {A = ℕ} 0 1 = cc in omega arith
-
-all-passed : (v : ℕ → ℕ → Verdict) (l : List (ℕ × ℕ)) → judgeBy v l ≡ Verdicts.Passed → (i j : ℕ) → Among l i j → v i j ≡ Verdicts.Passed
-unfolding judgeBy
-all-passed v [] e i j a = absurd (among-none i j a)
-all-passed v (d ∷ l) e i j a = go (all-passed v l) (v (d .0) (d .1)) refl e
-  where
-    go : (judgeBy v l ≡ Verdicts.Passed → (i j : ℕ) → Among l i j → v i j ≡ Verdicts.Passed) → (x : Verdict) → v (d .0) (d .1) ≡ x → onVerdict x (judgeBy v l) ≡ Verdicts.Passed → v i j ≡ Verdicts.Passed
-    go up Verdicts.Passed f g = ⊎-elim (λ (z : (i ≡ d .0) × (j ≡ d .1)). ap₂ v (z .0) (z .1) ∙ f) (λ (z : Among l i j). up g i j z) (among-cons d l i j a)
-    go up (Verdicts.Refused r) f g = absurd (no-refusal r g)
-
-not-refused : (i j : ℕ) (a : Answer) (r : Refusal) → answered i j a ≡ Verdicts.Passed → a ≡ Answers.Refused r → ⊥
-not-refused i j a r e f = no-refusal (atIndex i j r) (sym (ap (answered i j) f) ∙ e)
-
 -- ---- the counts
 grown-is : (w : Strategies) (s : List ℕ) (l : List (ℕ × ℕ)) (g : CorrectionStats) → grown w s l g ≡ plus g (pairGrowths w s l)
 unfolding grown pairGrowths
@@ -81,68 +65,40 @@ grown-is w s [] g = sym (plus-zero g)
 grown-is w s (e ∷ l) g = grown-is w s l (plus g (pairAt w s (e .0) (e .1) .after .stats)) ∙ plus-assoc g _ (pairGrowths w s l)
 
 -- ---- an accepted group is what the promise says
-record Stages (w : Strategies) (s : List ℕ) (g : CorrectionStats) (n p o : ℕ) (u : List ℕ) (h : CorrectionStats) : Type 0 where
-  framed : framesOf s ≡ Whole n
-  judged : judgeBy (verdictAt w s) (pairsOf s n) ≡ Verdicts.Passed
-  pairs : p ≡ length (pairsOf s n)
-  overlapping : o ≡ overlapsIn w s (pairsOf s n)
-  bytes : u ≡ written w s (pairsOf s n) s
-  counts : h ≡ grown w s (pairsOf s n) g
+module _ (w : Strategies) (s : List ℕ) (g : CorrectionStats) (n : ℕ) where
+  abbrev after : Ended
+  after = onPairs w s g n Verdicts.Passed
 
-refused-done : (r : Refusal) (n p o : ℕ) (a b : List ℕ) (c d : CorrectionStats) → ended (Refused r) a c ≡ ended (Done n p o) b d → ⊥
-refused-done r n p o a b c d e =
-    let f : Refused r ≡ Done n p o = ap (λ (x : Ended). x .answer) e in
-    let z : _≡_ {A = ℕ} 0 1 = cc in omega arith
+  -- a byte in no record of a pair of the list is in no record that stands there
+  outside : (x : ℕ) → ((i j : ℕ) → Among (pairsOf s n) i j → Elsewhere s i x × Elsewhere s j x) → (k : ℕ) → 0 < times (pairsOf s n) k → Elsewhere s k x
+  outside x a k q =
+      ⊎-elim (λ (y : (j : ℕ) × Among (pairsOf s n) k j). a k (y .0) (y .1) .0)
+      (λ (y : (j : ℕ) × Among (pairsOf s n) j k). a (y .0) k (y .1) .1) (times-among (pairsOf s n) k q)
 
-module _ (w : Strategies) (s : List ℕ) (g : CorrectionStats) (n p o : ℕ) (u : List ℕ) (h : CorrectionStats) where
-  staged : framedOf w s g ≡ ended (Done n p o) u h → Stages w s g n p o u h
-  unfolding framedOf
-  staged e = frames (framesOf s) refl e
-    where
-      pairs : (m : ℕ) → framesOf s ≡ Whole m → (v : Verdict) → judgeBy (verdictAt w s) (pairsOf s m) ≡ v → onPairs w s g m v ≡ ended (Done n p o) u h → Stages w s g n p o u h
-      pairs m f (Verdicts.Refused r) j d = absurd (refused-done r n p o _ u _ h d)
-      pairs m f Verdicts.Passed j d =
-          let a : Done m (length (pairsOf s m)) (overlapsIn w s (pairsOf s m)) ≡ Done n p o = ap (λ (x : Ended). x .answer) d in
-          let z : m ≡ n = cc in
-          let x : length (pairsOf s m) ≡ p = cc in
-          let y : overlapsIn w s (pairsOf s m) ≡ o = cc in
-          rw (sym z) (record {
-            framed = f;
-            judged = j;
-            pairs = sym x;
-            overlapping = sym y;
-            bytes = sym (ap (λ (x : Ended). x .bytes) d);
-            counts = sym (ap (λ (x : Ended). x .stats) d);
-          })
-
-      frames : (f : Framing) → framesOf s ≡ f → onFrames w s g f ≡ ended (Done n p o) u h → Stages w s g n p o u h
-      frames (Broken r) f d = absurd (refused-done r n p o _ u _ h d)
-      frames (Whole m) f d = pairs m f (judgeBy (verdictAt w s) (pairsOf s m)) refl d
-
-  -- the counts are those given and each pair's growth
-  pub done-grown : framedOf w s g ≡ ended (Done n p o) u h → h ≡ grown w s (pairsOf s n) g
-  done-grown e = staged e .counts
-
-  pub accepted : framedOf w s g ≡ ended (Done n p o) u h → Accepted w s g n p o u h
-  accepted e =
-      let t = staged e in
-      let fit : beginOf s n ≤ length s = omega (arith, whole-clean s n (t .framed) .1 .1) in
+  -- what is left when every pair passes and is treated
+  treated : framesOf s ≡ Whole n → judgement w s n ≡ Verdicts.Passed
+      → Accepted w s g n (length (pairsOf s n)) (overlapsIn w s (pairsOf s n)) (after .bytes) (after .stats)
+  treated framed judged =
+      let fit : beginOf s n ≤ length s = omega (arith, whole-clean s n framed .1 .1) in
       let once = pairs-once s n in
       let l = pairsOf s n in
       record {
-        framed = t .framed;
-        passed = λ i j r m f. not-refused i j (pairAt w s i j .answer) r (all-passed (verdictAt w s) l (t .judged) i j (mates-among s n i j m)) f;
-        first = λ i j m. ap (λ (x : List ℕ). part x (startOf s i) (endOf s i)) (t .bytes) ∙ written-first w s n fit l s refl once i j (mates-among s n i j m);
-        second = λ i j m. ap (λ (x : List ℕ). part x (startOf s j) (endOf s j)) (t .bytes) ∙ written-second w s n fit l s refl once i j (mates-among s n i j m);
-        others = λ x a. ap (λ (y : List ℕ). getD y x 0) (t .bytes) ∙ written-out w s n fit l s refl once x (outside x (λ i j b. a i j (among-mates s n i j b)));
-        size = ap length (t .bytes) ∙ written-size w s n fit l s refl once;
-        pairs = t .pairs;
-        overlapping = t .overlapping;
-        counts = t .counts ∙ grown-is w s l g;
+        framed = framed;
+        passed = judged-passed w s n judged;
+        first = λ i j m. written-first w s n fit l s refl once i j (mates-among s n i j m);
+        second = λ i j m. written-second w s n fit l s refl once i j (mates-among s n i j m);
+        others = λ x a. written-out w s n fit l s refl once x (outside x (λ i j b. a i j (among-mates s n i j b)));
+        size = written-size w s n fit l s refl once;
+        numbered = λ l′ q. (
+          same-length w s n l l′ (paired s n) q,
+          same-overlaps w s n l l′ (paired s n) q,
+          grown-is w s l g ∙ ap (plus g) (same-growths w s n l l′ (paired s n) q),
+        );
       }
-    where
-      outside : (x : ℕ) → ((i j : ℕ) → Among (pairsOf s n) i j → Elsewhere s i x × Elsewhere s j x) → (k : ℕ) → 0 < times (pairsOf s n) k → (x < startOf s k) ⊎ (endOf s k ≤ x)
-      outside x a k q = ⊎-elim (λ (y : (j : ℕ) × Among (pairsOf s n) k j). a k (y .0) (y .1) .0) (λ (y : (j : ℕ) × Among (pairsOf s n) j k). a (y .0) k (y .1) .1) (times-among (pairsOf s n) k q)
+
+  -- the counts are those given and each pair's growth, in the order of the list
+  pub accepted-grown : (p o : ℕ) (u : List ℕ) (h : CorrectionStats) → Accepted w s g n p o u h → h ≡ grown w s (pairsOf s n) g
+  accepted-grown p o u h a = a .numbered (pairsOf s n) (paired s n) .2 ∙ sym (grown-is w s (pairsOf s n) g)
 
 -- ---- no second outcome fits
 -- where byte x lies: in a record of a pair, or in none
@@ -182,12 +138,14 @@ pub one-outcome : (w : Strategies) (s : List ℕ) (g : CorrectionStats) (n p o n
 one-outcome w s g n p o n′ p′ o′ u u′ h h′ a b =
     let q : Whole n ≡ Whole n′ = sym (a .framed) ∙ b .framed in
     let z : n ≡ n′ = cc in
+    let c = a .numbered (pairsOf s n) (paired s n) in
+    let d = b .numbered (pairsOf s n) (subst (λ (q : ℕ). Paired s q (pairsOf s n)) z (paired s n)) in
     record {
       records = z;
-      pairs = a .pairs ∙ ap (λ (q : ℕ). length (pairsOf s q)) z ∙ sym (b .pairs);
-      overlapping = a .overlapping ∙ ap (λ (q : ℕ). overlapsIn w s (pairsOf s q)) z ∙ sym (b .overlapping);
+      pairs = c .0 ∙ sym (d .0);
+      overlapping = c .1 ∙ sym (d .1);
       bytes = ext-getD 0 u u′ (a .size ∙ sym (b .size)) (λ x l. by z x (locate s (pairsOf s n) x));
-      counts = a .counts ∙ ap (λ (q : ℕ). plus g (pairGrowths w s (pairsOf s q))) z ∙ sym (b .counts);
+      counts = c .2 ∙ sym (d .2);
     }
   where
     by : n ≡ n′ → (x : ℕ) → Spot s (pairsOf s n) x → getD u x 0 ≡ getD u′ x 0
@@ -201,94 +159,112 @@ one-outcome w s g n p o n′ p′ o′ u u′ h h′ a b =
         let out : (q : ℕ) → n ≡ q → (i j : ℕ) → Mates s q i j → Elsewhere s i x × Elsewhere s j x = λ q y i j v. f i j (mates-among s n i j (rw (sym y) at v)) in
         a .others x (out n refl) ∙ sym (b .others x (out n′ z))
 
--- ---- a refusal leaves every byte and count as it came
-pub refused-keeps : (m k : ℕ) (s : List ℕ) (g : CorrectionStats) (r : Refusal) (u : List ℕ) (h : CorrectionStats) → groupOf m k s g ≡ ended (Refused r) u h → (u ≡ s) × (h ≡ g)
-unfolding groupOf framedOf
-refused-keeps m k s g r u h e = numbered (numberedOf m k) e
-  where
-    same : (a : GroupAnswer) → ended a s g ≡ ended (Refused r) u h → (u ≡ s) × (h ≡ g)
-    same a d = (sym (ap (λ (x : Ended). x .bytes) d), sym (ap (λ (x : Ended). x .stats) d))
+-- ---- the whole call, its answer in the paper's numbers
+module _ (m k : ℕ) (s : List ℕ) (g : CorrectionStats) where
+  -- what the whole call gives
+  abbrev pub call : Ended
+  call = groupOf m k s g
 
-    pairs : (w : Strategies) (n : ℕ) (v : Verdict) → onPairs w s g n v ≡ ended (Refused r) u h → (u ≡ s) × (h ≡ g)
-    pairs w n (Verdicts.Refused x) d = same (Refused x) d
-    pairs w n Verdicts.Passed d = absurd (refused-done r n _ _ u _ h _ (sym d))
+  -- the answer of a call that ends so
+  said : (e : Ended) → call ≡ e → groupNumbers (call .answer) ≡ groupNumbers (e .answer)
+  said e d = ap (λ (x : Ended). groupNumbers (x .answer)) d
 
-    frames : (w : Strategies) (f : Framing) → onFrames w s g f ≡ ended (Refused r) u h → (u ≡ s) × (h ≡ g)
-    frames w (Broken x) d = same (Refused x) d
-    frames w (Whole n) d = pairs w n (judgeBy (verdictAt w s) (pairsOf s n)) d
-
-    counts : (w : Strategies) (t : Bool) → cond t (ended (Refused Why.Count) s g) (framedOf w s g) ≡ ended (Refused r) u h → (u ≡ s) × (h ≡ g)
-    counts w true d = same (Refused Why.Count) d
-    counts w false d = frames w (framesOf s) d
-
-    numbered : (x : Numbered) → onNumbered s g x ≡ ended (Refused r) u h → (u ≡ s) × (h ≡ g)
-    numbered (Numbers.Refused x) d = same (Refused x) d
-    numbered (Numbers.Are w) d = counts w (full g) d
-
--- ---- which refusal: that of the first pair that is refused
-record First (w : Strategies) (s : List ℕ) (f : ℕ → ℕ) (a m : ℕ) (r : Refusal) : Type 0 where
-  i : ℕ
-  j : ℕ
-  why : Refusal
-  made : Made f i j a m
-  refused : pairAt w s i j .answer ≡ Answers.Refused why
-  named : r ≡ atIndex i j why
-  before : (i′ j′ : ℕ) (r′ : Refusal) → Made f i′ j′ a m → i′ < i → pairAt w s i′ j′ .answer ≡ Answers.Refused r′ → ⊥
-
-module _ (w : Strategies) (s : List ℕ) (f : ℕ → ℕ) (r : Refusal) where
-  wider : (a m : ℕ) → ((j : ℕ) (r′ : Refusal) → f a ≡ suc j → pairAt w s a j .answer ≡ Answers.Refused r′ → ⊥) → First w s f (suc a) m r → First w s f a (suc m) r
-  wider a m ok b = record {
-    i = b .i;
-    j = b .j;
-    why = b .why;
-    made = record { low = omega (arith, b .made .low); high = omega (arith, b .made .high); made = b .made .made };
-    refused = b .refused;
-    named = b .named;
-    before = λ i′ j′ r′ x l y.
-        ⊎-elim (λ (q : a < i′). b .before i′ j′ r′ (record { low = omega arith; high = omega (arith, x .high); made = x .made }) l y)
-        (λ (q : i′ ≤ a). let z : i′ ≡ a = omega (arith, x .low) in ok j′ r′ (ap f (sym z) ∙ x .made) (ap (λ (c : ℕ). pairAt w s c j′ .answer) (sym z) ∙ y))
-        (lt-or-le a i′);
-  }
-
-  stops : (m a : ℕ) → judgeBy (verdictAt w s) (pairsFrom f a m) ≡ Verdicts.Refused r → First w s f a m r
-  unfolding judgeBy pairsFrom
-  stops zero a e = absurd (no-refusal r (sym e))
-  stops (suc m) a e = go (f a) refl (stops m (suc a)) e
+  -- a group that is answered 0 and three numbers: m and k name strategies, no count is full, and it is accepted by them
+  pub accepted : (n p o : ℕ) → groupNumbers (call .answer) ≡ 0 ∷ n ∷ p ∷ o ∷ []
+      → (w : Strategies) × (numberedOf m k ≡ Numbers.Are w) × (full g ≡ false) × Accepted w s g n p o (call .bytes) (call .stats)
+  accepted n p o e = go (cases m k s g)
     where
-      passes : (j : ℕ) (x : Answer) → f a ≡ suc j → pairAt w s a j .answer ≡ x → answered a j x ≡ Verdicts.Passed → (j′ : ℕ) (r′ : Refusal) → f a ≡ suc j′ → pairAt w s a j′ .answer ≡ Answers.Refused r′ → ⊥
-      passes j x d q ok j′ r′ d′ t =
-          let z : j ≡ j′ = omega (arith, sym d ∙ d′) in
-          not-refused a j x r′ ok (sym q ∙ ap (λ (c : ℕ). pairAt w s a c .answer) z ∙ t)
+      Wanted : Type 0
+      Wanted = (w : Strategies) × (numberedOf m k ≡ Numbers.Are w) × (full g ≡ false) × Accepted w s g n p o (call .bytes) (call .stats)
 
-      at : (j : ℕ) (x : Answer) → f a ≡ suc j → pairAt w s a j .answer ≡ x → (judgeBy (verdictAt w s) (pairsFrom f (suc a) m) ≡ Verdicts.Refused r → First w s f (suc a) m r)
-          → onVerdict (answered a j x) (judgeBy (verdictAt w s) (pairsFrom f (suc a) m)) ≡ Verdicts.Refused r → First w s f a (suc m) r
-      at j (Answers.Refused y) d q rest t =
-          let b : atIndex a j y ≡ r = cc in
-          record {
-            i = a;
-            j = j;
-            why = y;
-            made = record { low = omega arith; high = omega arith; made = d };
-            refused = q;
-            named = sym b;
-            before = λ i′ j′ r′ x′ l y′. omega (arith, x′ .low);
-          }
-      at j Answers.NoOverlap d q rest t = wider a m (passes j Answers.NoOverlap d q refl) (rest t)
-      at j Answers.Overlap d q rest t = wider a m (passes j Answers.Overlap d q refl) (rest t)
+      never : (r : Refusal) → call ≡ ended (Refused r) s g → Wanted
+      never r d =
+          let q : numberOf r ∷ placeOf r ∷ [] ≡ 0 ∷ n ∷ p ∷ o ∷ [] = sym (said (ended (Refused r) s g) d) ∙ e in
+          let z : _≡_ {A = ℕ} 0 1 = cc in absurd (omega arith)
 
-      go : (v : ℕ) → f a ≡ v → (judgeBy (verdictAt w s) (pairsFrom f (suc a) m) ≡ Verdicts.Refused r → First w s f (suc a) m r) → judgeBy (verdictAt w s) (mateCons a v (pairsFrom f (suc a) m)) ≡ Verdicts.Refused r → First w s f a (suc m) r
-      go zero d rest t = wider a m (λ j r′ z q. omega (arith, sym d ∙ z)) (rest t)
-      go (suc j) d rest t = at j (pairAt w s a j .answer) d refl rest t
+      go : Case m k s g call → Wanted
+      go (no-strategies a d) = never Strategy d
+      go (full-counts w a b d) = never Count d
+      go (broken-frames w r a b c d) = never r d
+      go (refused-pair w n₁ r a b c j d) = never r d
+      go (all-treated w n₁ a b c j d) =
+          let l = pairsOf s n₁ in
+          let q : 0 ∷ n₁ ∷ length l ∷ overlapsIn w s l ∷ [] ≡ 0 ∷ n ∷ p ∷ o ∷ [] = sym (said (onPairs w s g n₁ Verdicts.Passed) d) ∙ e in
+          let x : n₁ ≡ n = cc in
+          let y : length l ≡ p = cc in
+          let z : overlapsIn w s l ≡ o = cc in
+          (w, a, b, rw (d, sym x, sym y, sym z) (treated w s g n₁ c j))
 
-pub first-refused : (w : Strategies) (s : List ℕ) (n : ℕ) (r : Refusal) → judgeBy (verdictAt w s) (pairsOf s n) ≡ Verdicts.Refused r → FirstRefused w s n r
-first-refused w s n r e =
-    let b = stops w s (matesOf s n) r n 0 e in
-    record {
-      i = b .i;
-      j = b .j;
-      why = b .why;
-      mates = mate-mates s n (b .i) (b .j) (omega (arith, b .made .high)) (b .made .made);
-      refused = b .refused;
-      named = b .named;
-      before = λ i′ j′ r′ x l y. b .before i′ j′ r′ (record { low = omega arith; high = omega (arith, x .first .below); made = mates-mate s n i′ j′ x }) l y;
-    }
+  -- a group that is refused keeps every byte, and the counts stay
+  pub refused-keeps : (r : Refusal) (u : List ℕ) (h : CorrectionStats) → call ≡ ended (Refused r) u h → (u ≡ s) × (h ≡ g)
+  refused-keeps r u h e = go (cases m k s g)
+    where
+      kept : (q : Refusal) → call ≡ ended (Refused q) s g → (u ≡ s) × (h ≡ g)
+      kept q d = let c = sym e ∙ d in (ap (λ (x : Ended). x .bytes) c, ap (λ (x : Ended). x .stats) c)
+
+      go : Case m k s g call → (u ≡ s) × (h ≡ g)
+      go (no-strategies a d) = kept Strategy d
+      go (full-counts w a b d) = kept Count d
+      go (broken-frames w q a b c d) = kept q d
+      go (refused-pair w n q a b c j d) = kept q d
+      go (all-treated w n a b c j d) =
+          let q : Refused r ≡ Done n _ _ = ap (λ (x : Ended). x .answer) (sym e ∙ d) in
+          let z : _≡_ {A = ℕ} 0 1 = cc in absurd (omega arith)
+
+  -- number x and place y are answered exactly where the first check that fails gives them
+  pub decided : (x y : ℕ) → (groupNumbers (call .answer) ≡ x ∷ y ∷ []) ↔ FirstFailed m k s g x y
+  decided x y = (λ e. to e (cases m k s g), from x y)
+    where
+      by : (r : Refusal) → groupNumbers (call .answer) ≡ x ∷ y ∷ [] → call ≡ ended (Refused r) s g
+          → FirstFailed m k s g (numberOf r) (placeOf r) → FirstFailed m k s g x y
+      by r e d f =
+          let q : numberOf r ∷ placeOf r ∷ [] ≡ x ∷ y ∷ [] = sym (said (ended (Refused r) s g) d) ∙ e in
+          let u : numberOf r ≡ x = cc in
+          let v : placeOf r ≡ y = cc in
+          subst₂ (FirstFailed m k s g) u v f
+
+      to : groupNumbers (call .answer) ≡ x ∷ y ∷ [] → Case m k s g call → FirstFailed m k s g x y
+      to e (no-strategies a d) = by Strategy e d (by-strategies a)
+      to e (full-counts w a b d) = by Count e d (by-counts w a b)
+      to e (broken-frames w r a b c d) = by r e d (by-frames w r a b c)
+      to e (refused-pair w n r a b c j d) = by r e d (by-pair w n r a b c (judged-first w s n r j))
+      to e (all-treated w n a b c j d) =
+          let q : 0 ∷ n ∷ _ ∷ _ ∷ [] ≡ x ∷ y ∷ [] = sym (said (onPairs w s g n Verdicts.Passed) d) ∙ e in
+          let z : _≡_ {A = ℕ} 0 1 = cc in absurd (omega arith)
+
+      from : (x₁ y₁ : ℕ) → FirstFailed m k s g x₁ y₁ → groupNumbers (call .answer) ≡ x₁ ∷ y₁ ∷ []
+      from x₁ y₁ (by-strategies a) = said _ (ends-unnamed m k s g a)
+      from x₁ y₁ (by-counts w a b) = said _ (ends-full m k s g w a b)
+      from x₁ y₁ (by-frames w r a b c) = said _ (ends-framed m k s g w a b ∙ ap (onFrames w s g) c)
+      from x₁ y₁ (by-pair w n r a b c f) = said _ (ends-judged m k s g w a b n c (Verdicts.Refused r) (first-judged w s n r f))
+
+  -- 0 and three numbers, n the first, are answered exactly where m and k name strategies, no count is full, the n frames are whole and no
+  -- pair of mates is refused
+  pub done-exactly : (n : ℕ) → ((p : ℕ) × (o : ℕ) × (groupNumbers (call .answer) ≡ 0 ∷ n ∷ p ∷ o ∷ []))
+      ↔ ((w : Strategies) × (numberedOf m k ≡ Numbers.Are w) × (full g ≡ false) × (framesOf s ≡ Whole n)
+      × ((i j : ℕ) (r : Refusal) → Mates s n i j → pairAt w s i j .answer ≡ Answers.Refused r → ⊥))
+  done-exactly n = (
+    λ d. let x = accepted n (d .0) (d .1) (d .2) in (x .0, x .1, x .2, x .3 .framed, x .3 .passed),
+    λ c. (_, _, said _ (ends-judged m k s g (c .0) (c .1) (c .2) n (c .3) Verdicts.Passed (passed-judged (c .0) s n (c .4)))),
+  )
+
+  -- a group that is refused where strategies, counts and frames are not is refused by the first refused pair
+  pub first-refused : (r : Refusal) → call .answer ≡ Refused r
+      → (w : Strategies) → numberedOf m k ≡ Numbers.Are w → full g ≡ false → (n : ℕ) → framesOf s ≡ Whole n → FirstRefused w s n r
+  first-refused r e w a b n c = go (judgement w s n) refl
+    where
+      answer : (v : Verdict) → judgement w s n ≡ v → Refused r ≡ onPairs w s g n v .answer
+      answer v d = sym e ∙ ap (λ (x : Ended). x .answer) (ends-judged m k s g w a b n c v d)
+
+      go : (v : Verdict) → judgement w s n ≡ v → FirstRefused w s n r
+      go (Verdicts.Refused q) d =
+          let f : Refused r ≡ Refused q = answer (Verdicts.Refused q) d in
+          let z : q ≡ r = cc in
+          judged-first w s n r (d ∙ ap Verdicts.Refused z)
+      go Verdicts.Passed d =
+          let f : Refused r ≡ Done n _ _ = answer Verdicts.Passed d in
+          let z : _≡_ {A = ℕ} 0 1 = cc in absurd (omega arith)
+
+  -- no second refusal fits
+  pub one-refusal : (x y x′ y′ : ℕ) → FirstFailed m k s g x y → FirstFailed m k s g x′ y′ → (x ≡ x′) × (y ≡ y′)
+  one-refusal x y x′ y′ a b = let q : x ∷ y ∷ [] ≡ x′ ∷ y′ ∷ [] = sym (decided x y .1 a) ∙ decided x′ y′ .1 b in (cc, cc)

@@ -1,10 +1,11 @@
 -- The whole group call: its answer, every byte and the counts.
 use Prim.Native.Nat.{ℕ}
 use mathlib.Core.Bool.{cond}
-use mathlib.Core.List.{List}
+use mathlib.Core.List.{List, [], _∷_}
 use lib.ListN.{length}
 use Rattle.refusal.specs.declared.Refusal.{Refusal}
 use Rattle.refusal.specs.declared.Refusal.the-variants.{Count}
+use Rattle.refusal.specs.Table.{numberOf, placeOf}
 use Rattle.stats.specs.declared.CorrectionStats.{CorrectionStats}
 use Rattle.stats.specs.Counts.{full}
 use Rattle.strategy.specs.declared.Strategies.{Strategies}
@@ -21,6 +22,11 @@ use Rattle.verdicts.specs.Judged.{verdictAt, judgeBy}
 use Rattle.applying.specs.Applied.{written, grown, overlapsIn}
 use Rattle.group.specs.declared.GroupAnswer.{GroupAnswer}
 use Rattle.group.specs.declared.GroupAnswer.the-variants.{Done, Refused}
+
+-- the answer in the paper's numbers: 0, then the numbers of records, pairs and pairs overlapping; or a refusal's number, then its place
+abbrev pub groupNumbers : GroupAnswer → List ℕ
+groupNumbers (Done n p o) = 0 ∷ n ∷ p ∷ o ∷ []
+groupNumbers (Refused r) = numberOf r ∷ placeOf r ∷ []
 
 -- the answer, and the group and the counts after the call
 pub record Ended : Type 0 where

@@ -1,18 +1,23 @@
--- What a reader is promised of a group call: no loop, no list of pairs and no order of writing in it.
+-- What a reader is promised of a group call: no loop and no order of writing in it. It speaks of any list that names the pairs; that
+-- there is one is a law (`paired`), so nobody has to believe how the pairs are found, listed and judged (`pairsOf`, `judgeBy`).
 use Prim.Native.Nat.{ℕ, _<_, _≤_}
 use mathlib.Core.Path.{_≡_}
+use mathlib.Core.Bool.{true, false}
 use mathlib.Core.List.{List, [], _∷_}
 use mathlib.Core.Logic.{_⊎_}
 use lib.ListN.{length, getD}
 use Rattle.refusal.specs.declared.Refusal.{Refusal}
+use Rattle.refusal.specs.declared.Refusal.the-variants.{Strategy}
+use Rattle.refusal.specs.Table.{numberOf, placeOf}
 use Rattle.stats.specs.declared.CorrectionStats.{CorrectionStats}
-use Rattle.stats.specs.Counts.{zeroed, plus}
+use Rattle.stats.specs.Counts.{zeroed, plus, full}
 use Rattle.strategy.specs.declared.Strategies.{Strategies}
+use Rattle.strategy.specs.declared.Numbered.the-variants as Numbers
+use Rattle.strategy.specs.Number.{numberedOf}
 use Rattle.pair.specs.declared.Answer.the-variants as Answers
 use Rattle.frames.specs.Part.{part}
-use Rattle.frames.specs.declared.Framing.the-variants.{Whole}
+use Rattle.frames.specs.declared.Framing.the-variants.{Whole, Broken}
 use Rattle.frames.specs.Frame.{startOf, endOf, framesOf}
-use Rattle.mates.specs.Register.{pairsOf}
 use Rattle.fields.specs.Among.{Among}
 use Rattle.mates.specs.Promise.{Mates, Once}
 use Rattle.verdicts.specs.Judged.{pairAt, atIndex}
@@ -41,9 +46,7 @@ pub record Accepted (w : Strategies) (s : List ℕ) (g : CorrectionStats) (n p o
   pub second : (i j : ℕ) → Mates s n i j → part u (startOf s j) (endOf s j) ≡ pairAt w s i j .after .second
   pub others : (x : ℕ) → ((i j : ℕ) → Mates s n i j → Elsewhere s i x × Elsewhere s j x) → getD u x 0 ≡ getD s x 0
   pub size : length u ≡ length s
-  pub pairs : p ≡ length (pairsOf s n)
-  pub overlapping : o ≡ overlapsIn w s (pairsOf s n)
-  pub counts : h ≡ plus g (pairGrowths w s (pairsOf s n))
+  pub numbered : (l : List (ℕ × ℕ)) → Paired s n l → (p ≡ length l) × (o ≡ overlapsIn w s l) × (h ≡ plus g (pairGrowths w s l))
 
 -- the pair of the least first's index that the pair call refuses is refused so, at its record at fault
 pub record FirstRefused (w : Strategies) (s : List ℕ) (n : ℕ) (r : Refusal) : Type 0 where
@@ -54,3 +57,11 @@ pub record FirstRefused (w : Strategies) (s : List ℕ) (n : ℕ) (r : Refusal) 
   pub refused : pairAt w s i j .answer ≡ Answers.Refused why
   pub named : r ≡ atIndex i j why
   pub before : (i′ j′ : ℕ) (r′ : Refusal) → Mates s n i′ j′ → i′ < i → pairAt w s i′ j′ .answer ≡ Answers.Refused r′ → ⊥
+
+-- the number x and the place y of the first check that fails: of the strategies' numbers m and k, the counts g, the frames of s, its pairs
+pub data FirstFailed (m k : ℕ) (s : List ℕ) (g : CorrectionStats) : ℕ → ℕ → Type 0 where
+  by-strategies : numberedOf m k ≡ Numbers.Refused Strategy → FirstFailed m k s g 10 0
+  by-counts : (w : Strategies) → numberedOf m k ≡ Numbers.Are w → full g ≡ true → FirstFailed m k s g 9 0
+  by-frames : (w : Strategies) (r : Refusal) → numberedOf m k ≡ Numbers.Are w → full g ≡ false → framesOf s ≡ Broken r → FirstFailed m k s g (numberOf r) (placeOf r)
+  by-pair : (w : Strategies) (n : ℕ) (r : Refusal) → numberedOf m k ≡ Numbers.Are w → full g ≡ false → framesOf s ≡ Whole n → FirstRefused w s n r
+      → FirstFailed m k s g (numberOf r) (placeOf r)
