@@ -1,3 +1,4 @@
 pub mod ViewLaws
+pub mod RefusalLaws
 pub mod MethodWalk
 pub mod ThroughWalk

@@ -1,17 +1,22 @@
 -- What the read view gives of a record s that is given alone, so that a refusal's place is 0.
 use Prim.Native.Nat.{ℕ}
 use mathlib.Core.Bool.{cond}
-use mathlib.Core.List.{List, []}
+use mathlib.Core.List.{List, [], _∷_}
 use lib.Dec.{ltb}
 use lib.IntN.{ℤ, negsuc}
 use lib.ListN.{length}
-use Rattle.refusal.specs.Table.{numberOf}
+use Rattle.refusal.specs.Table.{numberOf, placeOf}
 use Rattle.fields.specs.Layout.{header, nameIn}
 use Rattle.fields.specs.Check.{checkOf}
 use Rattle.fields.specs.declared.Checked.{Checked}
 use Rattle.fields.specs.declared.Checked.the-variants.{Good, Bad}
 use Rattle.view.specs.declared.Viewed.{Viewed}
 use Rattle.view.specs.declared.Viewed.the-variants.{Well, Refused}
+
+-- the answer in the paper's numbers: 0; or a refusal's number, then its place
+abbrev pub viewNumbers : Viewed → List ℕ
+viewNumbers Well = 0 ∷ []
+viewNumbers (Refused r) = numberOf r ∷ placeOf r ∷ []
 
 -- what the check comes to: 1, 2 and 3 of the table refuse, and 4 does not
 abbrev pub viewedBy : Checked → Viewed
