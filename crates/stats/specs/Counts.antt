@@ -1,8 +1,10 @@
 -- The four counts: zero, the sum, what a call accepts, and the merge of two.
 use Prim.Native.Nat.{ℕ, _+_}
 use mathlib.Core.Bool.{Bool, cond, _||_}
+use mathlib.Core.List.{List, [], _∷_}
 use lib.Dec.{ltb}
 use Rattle.refusal.specs.declared.Refusal.the-variants.{Sum}
+use Rattle.refusal.specs.Table.{numberOf, placeOf}
 use Rattle.stats.specs.declared.CorrectionStats.{CorrectionStats}
 use Rattle.stats.specs.declared.Merged.{Merged}
 use Rattle.stats.specs.declared.Merged.the-variants.{Total, Refused}
@@ -27,3 +29,8 @@ full g = above 18446744073692774399 g
 -- refusal 13: a sum above 2 ^ 64 - 1
 abbrev pub mergedOf : CorrectionStats → CorrectionStats → Merged
 mergedOf g h = cond (above 18446744073709551615 (plus g h)) (Refused Sum) (Total (plus g h))
+
+-- the answer of a merge in the paper's numbers: 0, then the sums; or a refusal's number, then its place
+abbrev pub mergedNumbers : Merged → List ℕ
+mergedNumbers (Total t) = 0 ∷ t .overlapping ∷ t .agreeing ∷ t .disagreeing ∷ t .corrected ∷ []
+mergedNumbers (Refused r) = numberOf r ∷ placeOf r ∷ []
