@@ -1,47 +1,37 @@
 -- The paper's number and place of each refusal.
 use Prim.Native.Nat.{ℕ, _+_, _*_}
 use Rattle.refusal.specs.declared.Refusal.{Refusal}
+use Rattle.refusal.specs.declared.Row.{Row}
 use Rattle.refusal.specs.declared.Refusal.the-variants.{RecordShort, RecordLong, NameAndOperations, BasesAndQualities, OperationCode, OperationLength, ReadTotal, ReferenceEnd, Count, Strategy, Frame, TooManyRecords, Sum, Input, CountsSlice, OutputShort, TrailerMissing, TrailerField}
 
+abbrev pub row : ℕ → ℕ → Row
+row n p = record { number = n; at = p }
+
+abbrev pub rowOf : Refusal → Row
+rowOf (RecordShort p) = row 1 p
+rowOf (RecordLong p) = row 2 p
+rowOf (NameAndOperations p) = row 3 p
+rowOf (BasesAndQualities p) = row 4 p
+rowOf (OperationCode p) = row 5 p
+rowOf (OperationLength p) = row 6 p
+rowOf (ReadTotal p) = row 7 p
+rowOf (ReferenceEnd p) = row 8 p
+rowOf Count = row 9 0
+rowOf Strategy = row 10 0
+rowOf (Frame p) = row 11 p
+rowOf TooManyRecords = row 12 256
+rowOf Sum = row 13 0
+rowOf Input = row 14 0
+rowOf CountsSlice = row 15 0
+rowOf OutputShort = row 19 0
+rowOf TrailerMissing = row 20 0
+rowOf TrailerField = row 21 0
+
 abbrev pub numberOf : Refusal → ℕ
-numberOf (RecordShort p) = 1
-numberOf (RecordLong p) = 2
-numberOf (NameAndOperations p) = 3
-numberOf (BasesAndQualities p) = 4
-numberOf (OperationCode p) = 5
-numberOf (OperationLength p) = 6
-numberOf (ReadTotal p) = 7
-numberOf (ReferenceEnd p) = 8
-numberOf Count = 9
-numberOf Strategy = 10
-numberOf (Frame p) = 11
-numberOf TooManyRecords = 12
-numberOf Sum = 13
-numberOf Input = 14
-numberOf CountsSlice = 15
-numberOf OutputShort = 19
-numberOf TrailerMissing = 20
-numberOf TrailerField = 21
+numberOf r = rowOf r .number
 
 abbrev pub placeOf : Refusal → ℕ
-placeOf (RecordShort p) = p
-placeOf (RecordLong p) = p
-placeOf (NameAndOperations p) = p
-placeOf (BasesAndQualities p) = p
-placeOf (OperationCode p) = p
-placeOf (OperationLength p) = p
-placeOf (ReadTotal p) = p
-placeOf (ReferenceEnd p) = p
-placeOf Count = 0
-placeOf Strategy = 0
-placeOf (Frame p) = p
-placeOf TooManyRecords = 256
-placeOf Sum = 0
-placeOf Input = 0
-placeOf CountsSlice = 0
-placeOf OutputShort = 0
-placeOf TrailerMissing = 0
-placeOf TrailerField = 0
+placeOf r = rowOf r .at
 
 -- what an exported call answers
 abbrev pub codeOf : Refusal → ℕ

@@ -1,6 +1,6 @@
 // Why a call is refused, and where: the table of refusals, numbered as in the paper.
 ghost use mathlib.Core.Path.{_≡_};
-ghost use Rattle.refusal.specs.Table.{numberOf, placeOf, codeOf};
+ghost use Rattle.refusal.specs.Table.{rowOf, numberOf, placeOf, codeOf};
 
 // A refusal. Where it holds a number, that is its place: 1 or 2 in a pair, the record's index in a
 // group, 0 for a record given alone. The others name no record.
@@ -25,65 +25,62 @@ pub enum Refusal {
     TrailerField,
 }
 
+// A row of the table: a refusal's number, and where it is given: its place, which is the record at
+// fault, 256 for bytes after 256 records, or 0.
+pub struct Row {
+    pub number: u16,
+    pub at: u16,
+}
+
 impl Refusal {
+    // Its row of the table.
+    pub fn row(self) -> Row
+        ensures { λ r. ⌜ r ≡ rowOf self ⌝ }
+    {
+        match self {
+            Refusal::RecordShort(p) => Row { number: 1, at: p },
+            Refusal::RecordLong(p) => Row { number: 2, at: p },
+            Refusal::NameAndOperations(p) => Row { number: 3, at: p },
+            Refusal::BasesAndQualities(p) => Row { number: 4, at: p },
+            Refusal::OperationCode(p) => Row { number: 5, at: p },
+            Refusal::OperationLength(p) => Row { number: 6, at: p },
+            Refusal::ReadTotal(p) => Row { number: 7, at: p },
+            Refusal::ReferenceEnd(p) => Row { number: 8, at: p },
+            Refusal::Count => Row { number: 9, at: 0 },
+            Refusal::Strategy => Row { number: 10, at: 0 },
+            Refusal::Frame(p) => Row { number: 11, at: p },
+            Refusal::TooManyRecords => Row {
+                number: 12,
+                at: 256,
+            },
+            Refusal::Sum => Row { number: 13, at: 0 },
+            Refusal::Input => Row { number: 14, at: 0 },
+            Refusal::CountsSlice => Row { number: 15, at: 0 },
+            Refusal::OutputShort => Row { number: 19, at: 0 },
+            Refusal::TrailerMissing => Row { number: 20, at: 0 },
+            Refusal::TrailerField => Row { number: 21, at: 0 },
+        }
+    }
+
     // Its number in the table.
     pub fn number(self) -> u16
         ensures { λ r. ⌜ r ≡ numberOf self ⌝ }
     {
-        match self {
-            Refusal::RecordShort(_) => 1,
-            Refusal::RecordLong(_) => 2,
-            Refusal::NameAndOperations(_) => 3,
-            Refusal::BasesAndQualities(_) => 4,
-            Refusal::OperationCode(_) => 5,
-            Refusal::OperationLength(_) => 6,
-            Refusal::ReadTotal(_) => 7,
-            Refusal::ReferenceEnd(_) => 8,
-            Refusal::Count => 9,
-            Refusal::Strategy => 10,
-            Refusal::Frame(_) => 11,
-            Refusal::TooManyRecords => 12,
-            Refusal::Sum => 13,
-            Refusal::Input => 14,
-            Refusal::CountsSlice => 15,
-            Refusal::OutputShort => 19,
-            Refusal::TrailerMissing => 20,
-            Refusal::TrailerField => 21,
-        }
+        self.row().number
     }
 
-    // Its place: the record at fault, 256 for bytes after 256 records, or 0.
+    // Its place.
     pub fn place(self) -> u16
         ensures { λ r. ⌜ r ≡ placeOf self ⌝ }
     {
-        match self {
-            Refusal::RecordShort(p) => p,
-            Refusal::RecordLong(p) => p,
-            Refusal::NameAndOperations(p) => p,
-            Refusal::BasesAndQualities(p) => p,
-            Refusal::OperationCode(p) => p,
-            Refusal::OperationLength(p) => p,
-            Refusal::ReadTotal(p) => p,
-            Refusal::ReferenceEnd(p) => p,
-            Refusal::Count => 0,
-            Refusal::Strategy => 0,
-            Refusal::Frame(p) => p,
-            Refusal::TooManyRecords => 256,
-            Refusal::Sum => 0,
-            Refusal::Input => 0,
-            Refusal::CountsSlice => 0,
-            Refusal::OutputShort => 0,
-            Refusal::TrailerMissing => 0,
-            Refusal::TrailerField => 0,
-        }
+        self.row().at
     }
 
     // The one number that an exported call answers for it.
     pub fn code(self) -> u32
         ensures { λ r. ⌜ r ≡ codeOf self ⌝ }
     {
-        let place = self.place() as u32;
-        let number = self.number() as u32;
-        1000 + 100 * place + number
+        let row = self.row();
+        1000 + 100 * (row.at as u32) + row.number as u32
     }
 }

@@ -1,7 +1,7 @@
--- `refusal::Refusal::place` meets its contract. Assumes nothing.
+-- `refusal::Refusal::row` meets its contract: in each arm the refusal is the one that is named. Assumes nothing.
 use borrow.Author.Needs.{needs}
-use Rattle.refusal.proofs.Refusal.place.Statement.{statement}
-use Rattle.refusal.proofs.Refusal.place.Tie as tie
+use Rattle.refusal.proofs.Refusal.row.Statement.{statement}
+use Rattle.refusal.proofs.Refusal.row.Tie as tie
 
 enum-known-self : tie.Need-enum-known-self
 enum-known-self c = search needs
@@ -111,8 +111,8 @@ returns-17 c = rw (c .enum-told8 .given .1)
 returns-18 : tie.Need-returns-18
 returns-18 c = rw (c .enum-told9 .given .1)
 
-pub place-spec : {M : Type 1} → statement M
-place-spec =
+pub row-spec : {M : Type 1} → statement M
+row-spec =
     tie.close
     (tie.spec
     enum-known-self
