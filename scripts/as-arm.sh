@@ -4,7 +4,7 @@
 # and link there, and that hosts/far works. It doesn't show the proofs, as the archive and the programs are those of
 # target/ here, nor any time: the kit's emulator is emulated in its turn, and starts a program in 4 seconds.
 #   scripts/as-arm.sh make               makes the Debian: some 8 minutes and 1 GB
-#   scripts/as-arm.sh COMMAND [WORD..]   runs a command in it, at the repository's root: sh scripts/test-hosts.sh
+#   scripts/as-arm.sh COMMAND [WORD..]   runs a command in it, at the repository's root: sh tests/hosts.sh
 # Needs root, Debian, and Linux 6.7 or newer. What the command makes stays in ARM_ROOT/made, a folder for each clone of the
 # repository. No part of the gate.
 #   ARM_ROOT   the folder of that Debian (default ../armroot beside the repository)

@@ -1,6 +1,6 @@
 #!/bin/sh
 # Makes, of the archive, one of the same calls that links natively, and prints its name. hosts/far/far.c says how it
-# works. It takes the kit's tools and the C compiler of this machine; on x86-64 too, where only test-far.sh wants it.
+# works. It takes the kit's tools and the C compiler of this machine; on x86-64 too, where only tests/far.sh wants it.
 #   scripts/far.sh ARCHIVE
 set -eu
 . "$(dirname "$0")/settings.sh"

@@ -1,9 +1,9 @@
 #!/bin/sh
 # What the programs do where reading or writing fails, where nobody reads what they write, and where a word
 # stands behind their name: nothing goes to standard output, and a line on standard error says why.
-#   scripts/test-streams.sh
+#   tests/streams.sh
 set -eu
-. "$(dirname "$0")/settings.sh"
+. "$(dirname "$0")/../scripts/settings.sh"
 need_program
 need_program_filed
 mkdir -p "$root/target/tests"

@@ -3,7 +3,7 @@
 # archive, and over a shared object made of it. Elsewhere than on x86-64 the installation has to be refused.
 set -eu
 unset CDPATH
-. "$(dirname "$0")/settings.sh"
+. "$(dirname "$0")/../scripts/settings.sh"
 out=$root/target/install
 rm -rf "$out"
 mkdir -p "$out/far"

@@ -1,7 +1,7 @@
 #!/bin/sh
 # The program reads a pipe that brings its input in pieces, as one in which it stands whole.
 set -eu
-. "$(dirname "$0")/settings.sh"
+. "$(dirname "$0")/../scripts/settings.sh"
 need_tool python3
 need_program
 out=$root/target/tests

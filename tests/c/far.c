@@ -1,7 +1,7 @@
 /*
- * test.c: for scripts/test-far.sh.
- *   test        calls from two threads at once, and from a process and its child at once: 0 where each got its own answers
- *   test CALL   one call: pair, filed or trailer
+ * For tests/far.sh.
+ *   far         calls from two threads at once, and from a process and its child at once: 0 where each got its own answers
+ *   far CALL    one call: pair, filed or trailer
  */
 #define _POSIX_C_SOURCE 200809L
 #include "overlap.h"

@@ -4,7 +4,7 @@
 # then example/show.py and the installation.
 set -eu
 unset CDPATH
-. "$(dirname "$0")/settings.sh"
+. "$(dirname "$0")/../scripts/settings.sh"
 need_archive
 need_program_filed
 out=$root/target/hosts
@@ -122,4 +122,4 @@ else
 fi
 test_readme
 python3 "$root/tests/show.py"
-sh "$root/scripts/test-install.sh"
+sh "$root/tests/install.sh"

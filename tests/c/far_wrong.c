@@ -1,4 +1,4 @@
-/* wrong.c: stands in for the archive in scripts/test-far.sh. Each call does what no call may. */
+/* Stands in for the archive in tests/far.sh. Each call does what no call may. */
 #include "overlap.h"
 
 uint32_t overlap_call(uint8_t *first, size_t first_len, uint8_t *second, size_t second_len,

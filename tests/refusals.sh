@@ -1,9 +1,9 @@
 #!/bin/sh
 # Runs every box of docs/REFUSALS.md and compares: pairs and filed groups through the exported
 # calls, inputs through the programs.
-#   scripts/test-refusals.sh [PAGE]
+#   tests/refusals.sh [PAGE]
 set -eu
-. "$(dirname "$0")/settings.sh"
+. "$(dirname "$0")/../scripts/settings.sh"
 need_archive
 need_program
 need_program_filed

@@ -2,9 +2,9 @@
 # Files groups with hosts/c/file.c and sends them through the program overlap_filed: the line and the frames
 # against those of `overlap`, the trailer's counts against the line; the corrected group sent again; and every
 # part of it that a torn write could leave.
-#   scripts/test-filed.sh
+#   tests/filed.sh
 set -eu
-. "$(dirname "$0")/settings.sh"
+. "$(dirname "$0")/../scripts/settings.sh"
 need_tool python3
 need_archive
 need_program
