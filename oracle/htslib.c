@@ -4,8 +4,8 @@
  *
  * Random well-formed pairs go through overlap_call. The records before and after are written as
  * two BAM files, and htslib reads both. Which base sits at which position comes from htslib's
- * pileup, bases and qualities from its readers; from these the rule of the paper is worked out
- * and held against the bytes after the call, its answer and its counts. A second set has wrong
+ * pileup, bases and qualities from its readers; from these the rule of the paper, as tests/c/model.h
+ * has it, is worked out and held against the bytes after the call, its answer and its counts. A second set has wrong
  * operation lengths and positions near the end: refusal 7 must come exactly where htslib calls
  * the lengths different, refusal 8 exactly where its end of the read is above 2,147,483,646.
  */
@@ -14,6 +14,8 @@
 #include <stdio.h>
 #include <stdlib.h>
 #include <string.h>
+#include "../tests/c/model.h"
+#include "../tests/c/seeded.h"
 
 enum { ROOM = 4096, SPAN = 4096, LAST = 2147483646 };
 typedef struct { uint8_t at[ROOM]; size_t len; } Rec;
@@ -26,15 +28,10 @@ static void fail(long pair, const char *what) {
 
 /* ---- seeded records ---- */
 
-static uint64_t state;
-static uint64_t below(uint64_t n) {
-    uint64_t z = state += 0x9E3779B97F4A7C15ull;
-    z = (z ^ z >> 30) * 0xBF58476D1CE4E5B9ull;
-    z = (z ^ z >> 27) * 0x94D049BB133111EBull;
-    return (z ^ z >> 31) % n;
-}
-static void put(Rec *r, uint64_t n, int width) {
-    for (; width--; n >>= 8) r->at[r->len++] = (uint8_t)n;
+uint64_t random_state;
+static void append(Rec *r, uint64_t n, int width) {
+    put(r->at + r->len, width, n);
+    r->len += (size_t)width;
 }
 
 /* Clips around aligned stretches with one or two other operations between them. */
@@ -63,19 +60,19 @@ static void make(Rec *r, int second, int damage) {
     if (damage && below(2) == 0) pos = LAST - bam_cigar2rlen((int)n, ops) - 2 + (int64_t)below(5);
     if (pos > INT32_MAX) pos = INT32_MAX;
     r->len = 0;
-    put(r, 0, 4), put(r, (uint64_t)pos, 4), put(r, 3, 1), put(r, 60, 1), put(r, 4680, 2), put(r, n, 2);
-    put(r, (second ? 128 : 64) | below(4) | below(4) << 4, 2);
-    put(r, bases, 4), put(r, 0, 4), put(r, below(99), 4), put(r, below(99), 4);
-    put(r, 'p' | '1' << 8, 3);
-    for (unsigned i = 0; i < n; i++) put(r, ops[i], 4);
+    append(r, 0, 4), append(r, (uint64_t)pos, 4), append(r, 3, 1), append(r, 60, 1), append(r, 4680, 2), append(r, n, 2);
+    append(r, (second ? 128 : 64) | below(4) | below(4) << 4, 2);
+    append(r, bases, 4), append(r, 0, 4), append(r, below(99), 4), append(r, below(99), 4);
+    append(r, 'p' | '1' << 8, 3);
+    for (unsigned i = 0; i < n; i++) append(r, ops[i], 4);
     uint64_t few = below(3); /* mostly one letter, four letters, or all sixteen codes */
     for (unsigned i = 0; i < (bases + 1) / 2; i++) {
         uint64_t high = few == 2 ? below(16) : 1ull << (few ? below(4) : 0), low = few == 2 ? below(16) : 1ull << below(few + 1);
-        put(r, high << 4 | (2 * i + 1 < bases ? low : 0), 1);
+        append(r, high << 4 | (2 * i + 1 < bases ? low : 0), 1);
     }
     uint64_t most = below(2) ? 94 : 256;
-    for (unsigned i = 0; i < bases; i++) put(r, below(most), 1);
-    put(r, 'N' | 'M' << 8 | 'C' << 16, 3), put(r, below(200), 1);
+    for (unsigned i = 0; i < bases; i++) append(r, below(most), 1);
+    append(r, 'N' | 'M' << 8 | 'C' << 16, 3), append(r, below(200), 1);
 }
 
 /* ---- what htslib reads ---- */
@@ -83,11 +80,11 @@ static void make(Rec *r, int second, int damage) {
 static void write_bam(const char *path, Pair *pairs, long n, int after) {
     FILE *f = fopen(path, "wb");
     Rec head = { "BAM\1", 4 };
-    put(&head, 0, 4), put(&head, 1, 4), put(&head, 2, 4), put(&head, 'r', 2), put(&head, INT32_MAX, 4);
+    append(&head, 0, 4), append(&head, 1, 4), append(&head, 2, 4), append(&head, 'r', 2), append(&head, INT32_MAX, 4);
     if (!f || fwrite(head.at, 1, head.len, f) != head.len) fail(0, "can't write");
     for (long i = 0; i < 2 * n; i++) {
         Rec *r = after ? &pairs[i / 2].after[i % 2] : &pairs[i / 2].rec[i % 2], size = { { 0 }, 0 };
-        put(&size, r->len, 4);
+        append(&size, r->len, 4);
         if (fwrite(size.at, 1, 4, f) != 4 || fwrite(r->at, 1, r->len, f) != r->len) fail(i / 2, "can't write");
     }
     if (fclose(f)) fail(0, "can't write");
@@ -122,21 +119,13 @@ static void rule(bam1_t *x, bam1_t *y, const uint32_t *ways, uint32_t *answer, u
         *answer = 1;
         uint32_t i = in_x[pos] - 1, j = in_y[pos] - 1;
         int p = bam_seqi(bam_get_seq(x), i), q = bam_seqi(bam_get_seq(y), j);
-        uint8_t *a = bam_get_qual(x) + i, *b = bam_get_qual(y) + j;
-        int u = *a, v = *b, corrected = 0;
+        uint8_t *u = bam_get_qual(x) + i, *v = bam_get_qual(y) + j;
         if (seq_nt16_str[p] == 'N' || seq_nt16_str[q] == 'N') continue;
-        if (p == q) {
-            int sum = u + v > 93 ? 93 : u + v, larger = u > v ? u : v, to = ways[0] == 0 ? sum : larger;
-            if (ways[0] < 2) corrected = to != u || to != v, *a = (uint8_t)to, *b = (uint8_t)to;
-        } else if (ways[1] == 0 && u != v) {
-            int winner = u > v ? p : q, by = abs(u - v) < 2 ? 2 : abs(u - v);
-            bam_set_seqi(bam_get_seq(x), i, winner), bam_set_seqi(bam_get_seq(y), j, winner);
-            *a = *b = (uint8_t)by, corrected = 2;
-        } else {
-            if (ways[1] < 2 || u <= v) bam_set_seqi(bam_get_seq(x), i, seq_nt16_table['N']), *a = 2, corrected++;
-            if (ways[1] < 2 || v <= u) bam_set_seqi(bam_get_seq(y), j, seq_nt16_table['N']), *b = 2, corrected++;
-        }
-        grown[0]++, grown[p == q ? 1 : 2]++, grown[3] += (uint64_t)corrected;
+        struct called a = { p, *u }, b = { q, *v };
+        unsigned corrected = treat(&a, &b, ways[0], ways[1]);
+        bam_set_seqi(bam_get_seq(x), i, a.code), bam_set_seqi(bam_get_seq(y), j, b.code);
+        *u = (uint8_t)a.quality, *v = (uint8_t)b.quality;
+        grown[0]++, grown[p == q ? 1 : 2]++, grown[3] += corrected;
     }
 }
 
@@ -233,7 +222,8 @@ static void at_the_limits(long n) {
 
 int main(int argc, char **argv) {
     if (argc != 3) return fprintf(stderr, "htslib SEED PAIRS\n"), 2;
-    state = strtoull(argv[1], NULL, 10);
+    random_state = strtoull(argv[1], NULL, 10);
+    if (seq_nt16_table['N'] != NO_CALL) fail(0, "htslib has another code for N");
     hts_set_log_level(HTS_LOG_OFF); /* it would speak of each differing length, which are wanted here */
     printf("htslib %s, seed %s\n", hts_version(), argv[1]);
     well_formed(strtol(argv[2], NULL, 10));

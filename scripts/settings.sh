@@ -90,12 +90,12 @@ startable() ( # PROGRAM: prints the file that starts it
     echo "$script"
 )
 
-compile_c() ( # SOURCE OUTPUT [FLAG..]: a C program with the archive in it
+compile_c() ( # SOURCE OUTPUT [SOURCE or FLAG..]: a C program with the archive in it
     need_tool "$CC"
     source=$1 output=$2
     shift 2
     mkdir -p "$(dirname "$output")"
-    "$CC" -std=c11 -O2 -Wall -Wextra -Werror -I "$root/include" "$source" "$ARCHIVE" "$@" -o "$output"
+    "$CC" -std=c11 -O2 -Wall -Wextra -Werror -I "$root/include" "$source" "$@" "$ARCHIVE" -o "$output"
 )
 compile_x86() ( # SOURCE OUTPUT [FLAG..]: an x86-64 object, by the kit, whose C library has no headers
     need_tool "$CC"

@@ -9,7 +9,7 @@ mkdir -p "$out"
 
 ARCHIVE=$(sh "$root/scripts/far.sh" "$ARCHIVE")
 for name in judged filed; do
-    compile_c "$root/tests/c/$name.c" "$out/$name"
+    compile_c "$root/tests/c/$name.c" "$out/$name" "$root/tests/c/${name}"_*.c
     "$out/$name"
 done
 compile_c "$root/tests/c/far.c" "$out/far"

@@ -1,29 +1,16 @@
 /*
- * What the C tests share: numbers in bytes, and checks that are counted. A check that fails prints a line.
+ * What the C tests share: checks that are counted. A check that fails prints a line.
  */
+#ifndef CHECKS_H
+#define CHECKS_H
+
 #include <stdarg.h>
 #include <stdint.h>
 #include <stdio.h>
 
-/* Stores a number in `width` bytes, least byte first. */
-static void put(uint8_t *at, int width, uint64_t number)
-{
-    for (int i = 0; i < width; i++)
-        at[i] = (uint8_t)(number >> (8 * i));
-}
+extern unsigned passed, failed;   /* of the file with main */
 
-/* The number that `width` bytes hold, least byte first. */
-static uint64_t number_at(const uint8_t *at, int width)
-{
-    uint64_t number = 0;
-    for (int i = width - 1; i >= 0; i--)
-        number = number << 8 | at[i];
-    return number;
-}
-
-static unsigned passed, failed;
-
-static void check(int holds, const char *format, ...)
+static inline void check(int holds, const char *format, ...)
 {
     if (holds) {
         passed++;
@@ -38,7 +25,7 @@ static void check(int holds, const char *format, ...)
 }
 
 /* A text that says what is checked. It stays for three more calls of text. */
-static const char *text(const char *format, ...)
+static inline const char *text(const char *format, ...)
 {
     static char rooms[4][200];
     static unsigned calls;
@@ -50,10 +37,19 @@ static const char *text(const char *format, ...)
     return room;
 }
 
-static void check_bytes(const char *what, const char *where, const uint8_t *expected, const uint8_t *got, size_t n)
+static inline void check_bytes(const char *what, const char *where, const uint8_t *expected, const uint8_t *got, size_t n)
 {
     size_t i = 0;
     while (i < n && expected[i] == got[i])
         i++;
     check(i == n, "%s: %s, byte %zu: expected %u, got %u", what, where, i, i < n ? expected[i] : 0u, i < n ? got[i] : 0u);
 }
+
+/* Says how many passed and failed; what main is to answer. */
+static inline int tell_checks(void)
+{
+    printf("%u passed, %u failed\n", passed, failed);
+    return failed == 0 ? 0 : 1;
+}
+
+#endif

@@ -6,6 +6,7 @@
  * by itself, so that it can be compiled where no headers for x86-64 are.
  */
 #include "overlap.h"
+#include "records.h"
 
 typedef union { char size[56]; long align; } pthread_attr_t;   /* as glibc has it on x86-64 */
 typedef unsigned long pthread_t;
@@ -14,29 +15,26 @@ int pthread_create(pthread_t *, const pthread_attr_t *, void *(*)(void *), void 
 int mprotect(void *, size_t, int), printf(const char *, ...);
 void *memset(void *, int, size_t), *memcpy(void *, const void *, size_t);
 
-enum { PAGE = 4096, LARGEST = 1 << 20, RECORDS = 256, LONGEST = 65536, PAINT = 0xA5 };
+enum { PAGE = 4096, LARGEST = 1 << 20, PAINT = 0xA5 };
+enum { OPERATIONS = NAME + 4 };   /* every name has four bytes */
 
 static uint8_t stack[PAGE + LARGEST] __attribute__((aligned(PAGE)));
 static uint8_t filed[8 * LONGEST], out[sizeof filed], counts[OVERLAP_COUNTS_SIZE];
 static unsigned failed;
-
-static void put(uint8_t *at, int width, uint64_t number) {
-    for (int i = 0; i < width; i++) at[i] = (uint8_t)(number >> (8 * i));
-}
 
 /* A record of so many bytes in all, as many of them bases as fit; mates of a pair have the number's half as their
    name. Its operations are 1M1I by turns where `split`, and else one. Bases and qualities are of every kind. */
 static void put_record(uint8_t *r, size_t len, unsigned number, int split) {
     size_t bases = split ? 64 : (len - 40) * 2 / 3, ops = split ? 64 : 1;
     memset(r, 0, len);
-    put(r + 4, 4, 100 + number % 2);
-    r[8] = 4;
-    put(r + 12, 2, ops);
-    put(r + 14, 2, number % 2 ? 129 : 65);
-    put(r + 16, 4, bases);
-    put(r + 32, 3, number / 2);
-    for (size_t k = 0; k < ops; k++) put(r + 36 + 4 * k, 4, split ? 16 + k % 2 : bases * 16);
-    for (size_t k = 36 + 4 * ops; k < len; k++) r[k] = (uint8_t)(k * 37 + number % 2 * (k % 5));
+    put(r + POS, 4, 100 + number % 2);
+    put(r + NAME_LENGTH, 1, OPERATIONS - NAME);
+    put(r + OPERATION_COUNT, 2, ops);
+    put(r + FLAGS, 2, number % 2 ? 129 : 65);
+    put(r + L_SEQ, 4, bases);
+    put(r + NAME, 3, number / 2);
+    for (size_t k = 0; k < ops; k++) put(r + OPERATIONS + 4 * k, 4, split ? 16 + k % 2 : bases * 16);
+    for (size_t k = OPERATIONS + 4 * ops; k < len; k++) r[k] = (uint8_t)(k * 37 + number % 2 * (k % 5));
 }
 
 /* So many framed records of one length, and behind them their raw trailer; answers how many bytes it all takes. */
@@ -96,7 +94,7 @@ static size_t pairs(size_t len, size_t size) {
         most = larger(most, used_by(&(struct job){PAIR, len, k % 9 / 3, k % 3, 0, 0}, size, 1));
     }
     put_record(filed, len, 0, 0);
-    put(filed + 36, 4, 9);
+    put(filed + OPERATIONS, 4, 9);
     return larger(most, used_by(&(struct job){PAIR, len, 0, 0, 0, 0}, size, 1105));
 }
 
@@ -118,12 +116,12 @@ static void say(const char *call, size_t used, size_t size) {
 
 int main(void) {
     say("overlap_call", larger(pairs(400, OVERLAP_STACK), pairs(LONGEST, OVERLAP_STACK)), OVERLAP_STACK);
-    size_t n = put_filed(RECORDS, 1024, 0, 0) - OVERLAP_TRAILER_SIZE;
+    size_t n = put_filed(MOST_RECORDS, 1024, 0, 0) - OVERLAP_TRAILER_SIZE;
     say("overlap_trailer_call", used_by(&(struct job){TRAILER, n, 2, 2, 0, 0}, OVERLAP_STACK, 0), OVERLAP_STACK);
     say("overlap_filed_call, records of up to 1024 bytes",
-        larger(groups(RECORDS, 1024, OVERLAP_FILED_STACK), groups(2, 400, OVERLAP_FILED_STACK)), OVERLAP_FILED_STACK);
+        larger(groups(MOST_RECORDS, 1024, OVERLAP_FILED_STACK), groups(2, 400, OVERLAP_FILED_STACK)), OVERLAP_FILED_STACK);
     say("overlap_filed_call, records of any length",
-        larger(groups(RECORDS, 1025, OVERLAP_FILED_LONG_STACK), groups(2, LONGEST, OVERLAP_FILED_LONG_STACK)), OVERLAP_FILED_LONG_STACK);
+        larger(groups(MOST_RECORDS, 1025, OVERLAP_FILED_LONG_STACK), groups(2, LONGEST, OVERLAP_FILED_LONG_STACK)), OVERLAP_FILED_LONG_STACK);
     if (failed) printf("%u checks of the stack failed\n", failed);
     return failed != 0;
 }

@@ -1,24 +1,64 @@
 /*
- * The filed call and the trailer call as the paper and include/overlap.h tell them, in plain C. What a
- * pair becomes, what it answers and what it adds is asked of overlap_call; all else stands here.
+ * The paper in plain C, the only text of it here: what a shared position becomes (oracle/htslib.c holds it against what
+ * htslib reads), frames, mates, and the filed call and the trailer call as include/overlap.h tells them. What a pair
+ * becomes, what it answers and what it adds is asked of overlap_call; judged.c has the pair's answers as examples.
+ * bench/limit.c and bench/program.c tell the same again for speed.
  */
-enum { MOST_RECORDS = 256, LONGEST = 65536 };
-#define COUNT_LIMIT UINT64_C(18446744073692774399)
+#ifndef MODEL_H
+#define MODEL_H
 
-/* Where the numbers of a record stand, and where those of a trailer do. */
-enum { REF_ID = 0, POS = 4, NAME_LENGTH = 8, OPERATION_COUNT = 12, FLAGS = 14, L_SEQ = 16, NAME = 32 };
+#include "overlap.h"
+
+#include <string.h>
+
+#include "records.h"
+
+/* Where the numbers of a trailer stand. */
 enum { STATE = 4, STRATEGIES = 5, RECORDS = 6, GROWTH = 10, DISTANCE = 42, TRAILER = OVERLAP_TRAILER_SIZE };
 
 /* The longest group that is tried. */
-enum { ROOM = 1 << 19 };
+enum { LONGEST_GROUP = 1 << 19 };
 
 /* The answer for a refusal by number, at the record of an index, or at 0. */
 #define REFUSED(number, place) (1000u + 100u * (uint32_t)(place) + (uint32_t)(number))
 
+/* ---- A shared position ---- */
+
+enum { NO_CALL = 15 };   /* the code of N */
+
+struct called {
+    int code, quality;
+};
+
+/* What two bases become that share a position, neither of them an N, by the numbers of the strategies; gives by how
+   much the count of corrected ones grows. */
+static inline unsigned treat(struct called *x, struct called *y, uint32_t agreement, uint32_t disagreement)
+{
+    const struct called masked = {NO_CALL, 2};
+    int a = x->quality, b = y->quality, larger = a > b ? a : b, by = a > b ? a - b : b - a;
+    if (x->code == y->code) {
+        if (agreement == 0)
+            x->quality = y->quality = a + b > 93 ? 93 : a + b;
+        else if (agreement == 1)
+            x->quality = y->quality = larger;
+        return x->quality != a || y->quality != b;
+    }
+    if (disagreement == 0 && by > 0) {
+        struct called winner = {a > b ? x->code : y->code, by < 2 ? 2 : by};
+        *x = *y = winner;
+        return 2;
+    }
+    if (disagreement < 2 || a <= b)
+        *x = masked;
+    if (disagreement < 2 || b <= a)
+        *y = masked;
+    return disagreement == 2 && by > 0 ? 1 : 2;
+}
+
 /* ---- Frames ---- */
 
 /* The number that refuses a record of so many bytes, or 0. */
-static uint32_t fault_of(const uint8_t *r, uint64_t size)
+static inline uint32_t fault_of(const uint8_t *r, uint64_t size)
 {
     if (size < NAME)
         return 1;
@@ -38,7 +78,7 @@ struct cut {
     size_t records, begin[MOST_RECORDS + 1];
 };
 
-static void cut_frames(struct cut *c, const uint8_t *s, size_t len, int zero_ends)
+static inline void cut_frames(struct cut *c, const uint8_t *s, size_t len, int zero_ends)
 {
     size_t at = 0;
     memset(c, 0, sizeof *c);
@@ -67,17 +107,17 @@ static void cut_frames(struct cut *c, const uint8_t *s, size_t len, int zero_end
 
 /* ---- Mates ---- */
 
-enum { NO_PLACE, FIRST, LAST };
+enum { NO_PLACE, FIRST_PLACE, LAST_PLACE };
 
-static int place_of(const uint8_t *r)
+static inline int place_of(const uint8_t *r)
 {
     uint64_t flags = number_at(r + FLAGS, 2);
     if (flags & (256 | 2048))
         return NO_PLACE;
-    return flags & 64 ? FIRST : flags & 128 ? LAST : NO_PLACE;
+    return flags & 64 ? FIRST_PLACE : flags & 128 ? LAST_PLACE : NO_PLACE;
 }
 
-static int same_name(const uint8_t *r, const uint8_t *s)
+static inline int same_name(const uint8_t *r, const uint8_t *s)
 {
     size_t n = r[NAME_LENGTH] > 1 ? r[NAME_LENGTH] - 1u : 0;
     size_t m = s[NAME_LENGTH] > 1 ? s[NAME_LENGTH] - 1u : 0;
@@ -85,7 +125,7 @@ static int same_name(const uint8_t *r, const uint8_t *s)
 }
 
 /* Each record registers, and takes the registration of an earlier one of its name and place. */
-static void register_all(const uint8_t *s, const struct cut *c, int *place)
+static inline void register_all(const uint8_t *s, const struct cut *c, int *place)
 {
     for (size_t k = 0; k < c->records; k++) {
         const uint8_t *r = s + c->begin[k] + 4;
@@ -97,7 +137,7 @@ static void register_all(const uint8_t *s, const struct cut *c, int *place)
 }
 
 /* Corrects the pair of records i and j where they stand, and adds to the growth. 0, or the refusal. */
-static uint32_t correct_pair(uint8_t *s, const struct cut *c, size_t i, size_t j, unsigned strategies, uint64_t *growth)
+static inline uint32_t correct_pair(uint8_t *s, const struct cut *c, size_t i, size_t j, unsigned strategies, uint64_t *growth)
 {
     uint8_t counts[OVERLAP_COUNTS_SIZE] = {0};
     uint32_t answer = overlap_call(s + c->begin[i] + 4, c->begin[i + 1] - c->begin[i] - 4,
@@ -111,13 +151,13 @@ static uint32_t correct_pair(uint8_t *s, const struct cut *c, size_t i, size_t j
 }
 
 /* Corrects every pair, in order of the first's index. 0, or the refusal of the first that is refused. */
-static uint32_t correct_pairs(uint8_t *s, const struct cut *c, unsigned strategies, uint64_t *growth)
+static inline uint32_t correct_pairs(uint8_t *s, const struct cut *c, unsigned strategies, uint64_t *growth)
 {
     int place[MOST_RECORDS];
     register_all(s, c, place);
     for (size_t i = 0; i < c->records; i++) {
-        for (size_t j = 0; place[i] == FIRST && j < c->records; j++) {
-            if (place[j] != LAST || !same_name(s + c->begin[i] + 4, s + c->begin[j] + 4))
+        for (size_t j = 0; place[i] == FIRST_PLACE && j < c->records; j++) {
+            if (place[j] != LAST_PLACE || !same_name(s + c->begin[i] + 4, s + c->begin[j] + 4))
                 continue;
             uint32_t refusal = correct_pair(s, c, i, j, strategies, growth);
             if (refusal != 0)
@@ -129,7 +169,7 @@ static uint32_t correct_pairs(uint8_t *s, const struct cut *c, unsigned strategi
 
 /* ---- The two calls ---- */
 
-static int trailer_is_wrong(const uint8_t *t, size_t records, size_t distance)
+static inline int trailer_is_wrong(const uint8_t *t, size_t records, size_t distance)
 {
     int grown = 0;
     for (int i = 0; i < 32; i++)
@@ -138,9 +178,9 @@ static int trailer_is_wrong(const uint8_t *t, size_t records, size_t distance)
         || number_at(t + DISTANCE, 8) != distance || (t[STATE] == 0 && grown);
 }
 
-static uint32_t filed_model(const uint8_t *filed, size_t len, uint8_t *out, size_t out_len, uint8_t *counts, size_t counts_len)
+static inline uint32_t filed_model(const uint8_t *filed, size_t len, uint8_t *out, size_t out_len, uint8_t *counts, size_t counts_len)
 {
-    static uint8_t copy[ROOM];
+    static uint8_t copy[LONGEST_GROUP];
     struct cut c;
     uint64_t growth[4] = {0};
     if (counts_len != OVERLAP_COUNTS_SIZE)
@@ -174,7 +214,7 @@ static uint32_t filed_model(const uint8_t *filed, size_t len, uint8_t *out, size
     return 0;
 }
 
-static uint32_t trailer_model(const uint8_t *frames, size_t len, uint32_t agreement, uint32_t disagreement, uint8_t *trailer, size_t trailer_len)
+static inline uint32_t trailer_model(const uint8_t *frames, size_t len, uint32_t agreement, uint32_t disagreement, uint8_t *trailer, size_t trailer_len)
 {
     struct cut c;
     if (agreement > 2 || disagreement > 2)
@@ -190,3 +230,5 @@ static uint32_t trailer_model(const uint8_t *frames, size_t len, uint32_t agreem
     put(trailer + DISTANCE, 8, len);
     return 0;
 }
+
+#endif

@@ -1,0 +1,78 @@
+/*
+ * What the files of the program judged share: records built from texts, and calls on a pair of them with watched bytes
+ * behind. judged_limits.c and judged_order.c are a topic each, with a function for main at its end.
+ */
+#ifndef JUDGED_H
+#define JUDGED_H
+
+#include "overlap.h"
+
+#include <inttypes.h>
+#include <stdio.h>
+#include <stdlib.h>
+#include <string.h>
+
+#include "checks.h"
+#include "records.h"
+
+/* ---- Records: judged_calls.c ---- */
+
+/* Every built record has the name "a" and its zero byte, and so its operations here. */
+enum { OPERATIONS = NAME + 2 };
+
+/* The longest operation, and the letters of the operations by their codes. */
+#define LONGEST_OPERATION 268435455u
+static const char CODES[] = "MIDNSHP=X";
+
+/* The bytes behind `len` are watched too: nothing may be written there. */
+struct record {
+    size_t len;
+    uint8_t bytes[LONGEST + 64];
+};
+
+static inline void set(struct record *r, int field, int width, uint64_t number)
+{
+    put(r->bytes + field, width, number);
+}
+
+static inline void set_operation(struct record *r, int i, uint32_t length, uint32_t code)
+{
+    set(r, OPERATIONS + 4 * i, 4, length * 16 + code);
+}
+
+/* A record from texts: operations as "2S3M", bases as "ACGT", qualities as "30 20". Four bytes for a tag end it. */
+void build(struct record *r, int32_t pos, const char *operations, const char *bases, const char *qualities);
+
+/* A record of `count` bases, all of one code and quality. */
+void build_plain(struct record *r, int32_t pos, const char *operations, uint32_t count, uint8_t code, uint8_t quality);
+
+/* ---- Calls: judged_calls.c ---- */
+
+/* What a call is given, and the same after it. The bytes behind those of the counts are watched too. */
+struct call {
+    struct record first, second;
+    uint32_t agreement, disagreement;
+    uint8_t counts[OVERLAP_COUNTS_SIZE + 8];
+    size_t counts_len;
+};
+
+extern struct call given, after;
+
+/* A call that nothing is wrong with, but that its two records are still to be set. */
+void start_call(void);
+
+/* The same, with two records that share four positions, and agree at each. */
+void good_pair(void);
+
+/* Makes the call, and expects its answer. But for answer 1, every byte has to be as it was. */
+void expect_answer(const char *what, uint32_t answer);
+
+/* Expects both records as they are given here after the call, and the counts grown by so much. */
+void expect_after(const char *what, const struct record *first, const struct record *second, const uint64_t *growth);
+
+/* ---- Topics ---- */
+
+void limits(void);
+void order_of_judgement(void);
+
+#endif

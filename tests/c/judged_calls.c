@@ -1,0 +1,93 @@
+/* Records built from texts, and calls on a pair of them. */
+#include "judged.h"
+
+struct call given, after;
+
+/* ---- Records ---- */
+
+static const char BASES[] = "=ACMGRSVTWYHKDBN";
+
+/* Lays down operations given as "2S3M", and says how many there are. */
+static uint32_t lay_operations(struct record *r, const char *operations)
+{
+    uint32_t n = 0;
+    while (*operations != '\0') {
+        char *code;
+        uint32_t length = (uint32_t)strtoul(operations, &code, 10);
+        set_operation(r, (int)n++, length, (uint32_t)(strchr(CODES, *code) - CODES));
+        operations = code + 1;
+    }
+    return n;
+}
+
+/* Lays down a whole record. All bytes behind it are 0xEE, as are the four for a tag. */
+static void lay(struct record *r, int32_t pos, const char *operations, const uint8_t *codes, const uint8_t *qualities, uint32_t count)
+{
+    memset(r->bytes, 0xEE, sizeof r->bytes);
+    uint32_t n = lay_operations(r, operations);
+    uint8_t *bases = put_head(r->bytes, "a", 0x41, 0, (uint32_t)pos, n, count) + 4 * n;
+    r->len = (size_t)(put_bases(bases, codes, qualities, count) - r->bytes) + 4;
+}
+
+void build(struct record *r, int32_t pos, const char *operations, const char *bases, const char *qualities)
+{
+    uint8_t codes[64], quals[64];
+    uint32_t count = (uint32_t)strlen(bases);
+    for (uint32_t i = 0; i < count; i++) {
+        char *rest;
+        codes[i] = (uint8_t)(strchr(BASES, bases[i]) - BASES);
+        quals[i] = (uint8_t)strtoul(qualities, &rest, 10);
+        qualities = rest;
+    }
+    lay(r, pos, operations, codes, quals, count);
+}
+
+void build_plain(struct record *r, int32_t pos, const char *operations, uint32_t count, uint8_t code, uint8_t quality)
+{
+    static uint8_t codes[LONGEST], quals[LONGEST];
+    memset(codes, code, count);
+    memset(quals, quality, count);
+    lay(r, pos, operations, codes, quals, count);
+}
+
+/* ---- Calls ---- */
+
+void start_call(void)
+{
+    given.agreement = OVERLAP_AGREE_CONSENSUS;
+    given.disagreement = OVERLAP_DISAGREE_CONSENSUS;
+    memset(given.counts, 0xEE, sizeof given.counts);
+    put_start_counts(given.counts);
+    given.counts_len = OVERLAP_COUNTS_SIZE;
+}
+
+void good_pair(void)
+{
+    start_call();
+    build(&given.first, 9, "4M", "ACGT", "30 30 30 30");
+    build(&given.second, 9, "4M", "ACGT", "20 20 20 20");
+}
+
+void expect_answer(const char *what, uint32_t answer)
+{
+    memcpy(&after, &given, sizeof given);
+    uint32_t got = overlap_call(after.first.bytes, after.first.len, after.second.bytes, after.second.len,
+                                after.agreement, after.disagreement, after.counts, after.counts_len);
+    check(got == answer, "%s: expected the answer %" PRIu32 ", got %" PRIu32, what, answer, got);
+    if (answer == 1)
+        return;
+    check_bytes(what, "first record", given.first.bytes, after.first.bytes, sizeof given.first.bytes);
+    check_bytes(what, "second record", given.second.bytes, after.second.bytes, sizeof given.second.bytes);
+    check_bytes(what, "counts", given.counts, after.counts, sizeof given.counts);
+}
+
+void expect_after(const char *what, const struct record *first, const struct record *second, const uint64_t *growth)
+{
+    uint8_t expected[sizeof given.counts];
+    memcpy(expected, given.counts, sizeof expected);
+    for (int i = 0; i < 4; i++)
+        put(expected + 8 * i, 8, number_at(expected + 8 * i, 8) + growth[i]);
+    check_bytes(what, "first record", first->bytes, after.first.bytes, sizeof first->bytes);
+    check_bytes(what, "second record", second->bytes, after.second.bytes, sizeof second->bytes);
+    check_bytes(what, "counts", expected, after.counts, sizeof expected);
+}
