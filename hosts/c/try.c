@@ -11,21 +11,15 @@
  * the counts.
  */
 #include "overlap.h"
+#include "read_all.h"
 #include <ctype.h>
-#include <stdio.h>
-#include <stdlib.h>
 #include <string.h>
 
 enum { ROOM = 1 << 20 };
 typedef struct { uint8_t at[ROOM]; size_t len; } Bytes;
 
-static void fail(const char *why) {
-    fprintf(stderr, "try: %s\n", why);
-    exit(2);
-}
-
 static void append(Bytes *to, const uint8_t *from, size_t n) {
-    if (n > ROOM - to->len) fail("too long");
+    if (n > ROOM - to->len) fail("try", "too long");
     memmove(to->at + to->len, from, n);
     to->len += n;
 }
@@ -38,10 +32,10 @@ static const char *parse(const char *text, Bytes *out) {
         size_t start = out->len;
         if (*text == '(') {
             text = parse(text + 1, out);
-            if (*text++ != ')') fail("a bracket isn't closed");
+            if (*text++ != ')') fail("try", "a bracket isn't closed");
         } else {
             char digits[3] = { text[0], text[1], 0 };
-            if (!isxdigit((unsigned char)text[0]) || !isxdigit((unsigned char)text[1])) fail("two hexadecimal digits make a byte");
+            if (!isxdigit((unsigned char)text[0]) || !isxdigit((unsigned char)text[1])) fail("try", "two hexadecimal digits make a byte");
             uint8_t byte = (uint8_t)strtoul(digits, NULL, 16);
             append(out, &byte, 1);
             text += 2;
@@ -57,8 +51,8 @@ static const char *parse(const char *text, Bytes *out) {
 
 static Bytes *bytes(const char *text) {
     Bytes *all = calloc(1, sizeof *all);
-    if (!all) fail("no memory");
-    if (*parse(text, all)) fail("a closing bracket too many");
+    if (!all) fail("try", "no memory");
+    if (*parse(text, all)) fail("try", "a closing bracket too many");
     return all;
 }
 
@@ -93,10 +87,10 @@ static int try_pair(char **args) {
 static int try_filed(char **args) {
     Bytes *out = bytes(""), *out_before = bytes(""), *counts = bytes(args[1]), *filed = bytes(args[2]);
     out->len = out_before->len = number(args[0]);
-    if (out->len > ROOM) fail("too long");
+    if (out->len > ROOM) fail("try", "too long");
     uint32_t answer = overlap_filed_call(filed->at, filed->len, out->at, out->len, counts->at, counts->len);
     printf("answer %u\n", answer);
-    if (!same(filed, bytes(args[2]))) fail("the filed group itself was changed");
+    if (!same(filed, bytes(args[2]))) fail("try", "the filed group itself was changed");
     if (!same(out, out_before) || !same(counts, bytes(args[1]))) print("out", out), print("counts", counts);
     return 0;
 }
@@ -120,6 +114,6 @@ int main(int argc, char **argv) {
         { "pair", 5, try_pair }, { "filed", 3, try_filed }, { "trailer", 3, try_trailer }, { "bytes", 1, try_bytes } };
     for (size_t i = 0; i < sizeof COMMANDS / sizeof COMMANDS[0]; i++)
         if (argc == 2 + COMMANDS[i].args && strcmp(argv[1], COMMANDS[i].name) == 0) return COMMANDS[i].run(argv + 2);
-    fail("pair AGREEMENT DISAGREEMENT COUNTS FIRST SECOND, filed OUT_LEN COUNTS FILED, trailer AGREEMENT DISAGREEMENT FRAMES, or bytes TEXT");
+    fail("try", "pair AGREEMENT DISAGREEMENT COUNTS FIRST SECOND, filed OUT_LEN COUNTS FILED, trailer AGREEMENT DISAGREEMENT FRAMES, or bytes TEXT");
     return 2;
 }
