@@ -61,7 +61,7 @@ impl Pairs {
     fn new(pairs: &w::Pairs) -> Pairs {
         let (mut pristine, mut at) = (Vec::new(), Vec::new());
         for (a, b) in pairs {
-            let (a, b) = (w::encode(a), w::encode(b));
+            let (a, b) = (a.encode(), b.encode());
             at.push([pristine.len(), a.len(), pristine.len() + a.len(), b.len()]);
             pristine.extend([a, b].concat());
         }

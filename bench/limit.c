@@ -4,6 +4,9 @@
  *   limit_block   the same, 64 positions a step over local arrays, left to the compiler's vectorizer
  *
  * Both do all checks in the paper's order and write nothing before the last has passed.
+ *
+ * It is no model of the paper to judge by, as tests/c/model.h and oracle/judge/model.rs are, but a limit of speed: how fast
+ * the step can be when it is written for that alone. No model could serve for it, so the rules stand here once more.
  */
 #include <stddef.h>
 #include <stdint.h>

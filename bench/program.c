@@ -1,5 +1,5 @@
 /* program.c: the program `overlap` of the paper written by hand over limit.c's blocks, names
- * hashed: the anchor beside target/bin/overlap. */
+ * hashed: the anchor beside target/bin/overlap. A limit of speed and no model, as limit.c says of itself. */
 #include "limit.c"
 #include <stdio.h>
 #include <unistd.h>

@@ -5,57 +5,22 @@
 mod rng;
 use rng::Rng;
 
-pub const M: u32 = 0;
-pub const I: u32 = 1;
-pub const D: u32 = 2;
-pub const N: u32 = 3;
-pub const S: u32 = 4;
-pub const EQ: u32 = 7;
-pub const X: u32 = 8;
+#[path = "../oracle/judge/record.rs"]
+#[allow(dead_code)]
+mod record;
+use record::{D, EQ, I, M, N, S, X};
+pub use record::{Read, frame};
 
-pub struct Read {
-    pub name: Vec<u8>,
-    pub ref_id: i32,
-    pub pos: i32,
-    pub flag: u16,
-    pub mate_pos: i32,
-    pub tlen: i32,
-    pub cigar: Vec<(u32, u32)>, // (code, length)
-    pub codes: Vec<u8>,
-    pub quals: Vec<u8>,
-    pub tags: Vec<u8>,
-}
-
-pub fn encode(r: &Read) -> Vec<u8> {
-    let mut v = Vec::new();
-    v.extend(r.ref_id.to_le_bytes());
-    v.extend(r.pos.to_le_bytes());
-    v.push(r.name.len() as u8 + 1);
-    v.push(60);
-    v.extend(4680u16.to_le_bytes());
-    v.extend((r.cigar.len() as u16).to_le_bytes());
-    v.extend(r.flag.to_le_bytes());
-    v.extend((r.codes.len() as u32).to_le_bytes());
-    v.extend(r.ref_id.to_le_bytes());
-    v.extend(r.mate_pos.to_le_bytes());
-    v.extend(r.tlen.to_le_bytes());
-    v.extend(&r.name);
-    v.push(0);
-    for &(c, l) in &r.cigar {
-        v.extend((l * 16 + c).to_le_bytes());
-    }
-    for p in r.codes.chunks(2) {
-        v.push(p[0] << 4 | if p.len() > 1 { p[1] } else { 0 });
-    }
-    v.extend(&r.quals);
-    v.extend(&r.tags);
-    v
+/// The numbers of a record that the step never reads: mapping quality, bin, mate and template length.
+fn unread(mate_pos: i32, template: i32) -> [u8; 15] {
+    let bin = 4680u16.to_le_bytes();
+    [&[60][..], &bin, &[0; 4], &mate_pos.to_le_bytes(), &template.to_le_bytes()].concat().try_into().unwrap()
 }
 
 pub fn illumina_name(rng: &mut Rng) -> Vec<u8> {
-    // e.g. A00821:324:HW5YNDSX2:3:2217:21703:35571 : 38 to 40 bytes, prefix shared by a run
+    // e.g. A00821:324:HW5YNDSX2:3:2217:21703:35571 : 38 to 40 bytes and a zero byte, prefix shared by a run
     format!(
-        "A00821:324:HW5YNDSX2:{}:{}:{}:{}",
+        "A00821:324:HW5YNDSX2:{}:{}:{}:{}\0",
         rng.range(1, 4),
         rng.range(1101, 2678),
         rng.range(1000, 32999),
@@ -145,10 +110,6 @@ pub fn sequence(
     }
     let q = (0..codes.len()).map(|_| quality(rng)).collect();
     (codes, q)
-}
-
-pub fn ref_len(cigar: &[(u32, u32)]) -> i64 {
-    cigar.iter().filter(|x| matches!(x.0, 0 | 2 | 3 | 7 | 8)).map(|x| x.1 as i64).sum()
 }
 
 /// 90% plain, the rest with a soft clip, an insertion, a deletion or a mix.
@@ -250,35 +211,14 @@ pub fn pair(
     c2: Vec<(u32, u32)>,
 ) -> (Read, Read) {
     let name = illumina_name(rng);
-    let tlen = (pos2 + ref_len(&c2) - pos1) as i32;
     let (s1, q1) = sequence(rng, reference, pos1, &c1, sh.err, sh.n_rate);
     let (s2, q2) = sequence(rng, reference, pos2, &c2, sh.err, sh.n_rate);
-    let t = tags(rng, sh.long_tags);
-    let a = Read {
-        name: name.clone(),
-        ref_id: 0,
-        pos: pos1 as i32,
-        flag: 99,
-        mate_pos: pos2 as i32,
-        tlen,
-        cigar: c1,
-        codes: s1,
-        quals: q1,
-        tags: t.clone(),
-    };
-    let b = Read {
-        name,
-        ref_id: 0,
-        pos: pos2 as i32,
-        flag: 147,
-        mate_pos: pos1 as i32,
-        tlen: -tlen,
-        cigar: c2,
-        codes: s2,
-        quals: q2,
-        tags: t,
-    };
-    (a, b)
+    let tags = tags(rng, sh.long_tags);
+    let (at, mate_at) = (pos1 as i32, pos2 as i32);
+    let a = Read { pos: at, name, flags: 99, ops: c1, codes: s1, quals: q1, tags, ..Read::default() };
+    let b = Read { pos: mate_at, flags: 147, ops: c2, codes: s2, quals: q2, ..a.clone() };
+    let template = mate_at + b.reference_length() as i32 - at;
+    (Read { unread: unread(mate_at, template), ..a }, Read { unread: unread(at, -template), ..b })
 }
 
 const REF: usize = 1 << 20;
@@ -378,8 +318,8 @@ pub fn group(n: usize, r: &mut Rng, rf: &[u8]) -> Vec<Vec<u8>> {
         let c1 = short_cigar(r, 100);
         let c2 = short_cigar(r, 100);
         let (a, b) = pair(r, rf, &sh, s, c1, s + insert - 100, c2);
-        out.push(encode(&a));
-        out.push(encode(&b));
+        out.push(a.encode());
+        out.push(b.encode());
     }
     while out.len() < n {
         // a secondary or supplementary copy under a name that is there
@@ -398,12 +338,4 @@ pub fn w6(groups: usize, n: usize, seed: u64) -> Vec<Vec<Vec<u8>>> {
     let mut r = Rng::new(seed ^ 6 ^ ((n as u64) << 20));
     let rf = reference(&mut r, REF);
     (0..groups).map(|_| group(n, &mut r, &rf)).collect()
-}
-pub fn frame(records: &[Vec<u8>]) -> Vec<u8> {
-    let mut v = Vec::new();
-    for r in records {
-        v.extend((r.len() as u32).to_le_bytes());
-        v.extend(r);
-    }
-    v
 }

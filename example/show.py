@@ -4,7 +4,8 @@
     show.py FILE     FILE is what the program `overlap` reads (two digits first) or writes (a line first), a
                      filed group, what `overlap_filed` writes, or frames alone
 
-A file that is none of these is told in one line on standard error, with exit 1."""
+A file that is none of these is told in one line on standard error, with exit 1. It only reads how bytes are laid out;
+what becomes of them is worked out in tests/model.py."""
 import os, re, struct, sys
 
 LETTERS, OPERATIONS = '=ACMGRSVTWYHKDBN', 'MIDNSHP=X'

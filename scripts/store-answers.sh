@@ -21,5 +21,5 @@ if [ "${1:-}" = --check ]; then
 else
     cp "$fresh/pairs.bin" "$pairs"
     cp "$fresh/groups.bin" "$groups"
-    python3 "$root/tests/group_cases.py"
+    python3 -B "$root/tests/group_cases.py"
 fi

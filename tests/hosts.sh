@@ -121,5 +121,5 @@ else
     test_answers
 fi
 test_readme
-python3 "$root/tests/show.py"
+python3 -B "$root/tests/show.py"
 sh "$root/tests/install.sh"

@@ -1,6 +1,8 @@
 #!/usr/bin/env python3
 """What example/show.py says of each kind of file, and of what is no group: lines and exit, never a traceback."""
-import os, struct, subprocess, sys
+import os, subprocess, sys
+
+import model
 
 os.chdir(os.path.join(os.path.dirname(os.path.abspath(__file__)), '..'))
 FILE = 'target/tests/shown'
@@ -9,12 +11,7 @@ tried = bad = 0
 
 def frame(flags, quality, code=0):
     """A frame: a record named a, with one base A and one operation of length 1 at 10."""
-    record = struct.pack('<iiBBHHHIiii', 0, 9, 2, 0, 0, 1, flags, 1, 0, 0, 0) + b'a\0' + struct.pack('<IBB', 16 + code, 0x10, quality)
-    return struct.pack('<I', len(record)) + record
-
-
-def trailer(state, strategies, records, growth, distance):
-    return struct.pack('<IBBI4QQ', 0, state, strategies, records, *growth, distance)
+    return model.frame(model.record(flags=flags, ops=((1, code),), bases=(1,), quals=(quality,)))
 
 
 def shows(what, exit_code, lines, *args):
@@ -39,9 +36,9 @@ def no_group(what, data, why):
 
 
 FRAMES = frame(65, 30) + frame(129, 20)
-RAW = FRAMES + trailer(0, 5, 2, [0] * 4, len(FRAMES))
+RAW = FRAMES + model.trailer(0, 1, 2, 2, [0] * 4, len(FRAMES))
 AFTER = frame(65, 50) + frame(129, 50)
-CORRECTED = AFTER + trailer(1, 0, 2, [1, 1, 0, 1], len(AFTER))
+CORRECTED = AFTER + model.trailer(1, 0, 0, 2, [1, 1, 0, 1], len(AFTER))
 SHOWN = ['  a first reference 0 from  10   1M   A 30', '  a last  reference 0 from  10   1M   A 20']
 SHOWN_AFTER = [line[:-2] + '50' for line in SHOWN]
 SHOWN_TRAILER = '  trailer: corrected, growth of the counts 1 1 0 1; strategies 0 0'

@@ -26,9 +26,7 @@ pub fn class(first: &[u8], second: &[u8]) -> Option<Class> {
     }
     if model::pos(second) < 0 {
         // its operations aren't judged: codes above 8, which use nothing, may be among them
-        let on_reference = |o: &&(u64, u64)| matches!(o.0, 0 | 2 | 3 | 7 | 8);
-        let reference: u64 = model::operations(first).iter().filter(on_reference).map(|o| o.1).sum();
-        let at = model::pos(first) as u64;
+        let (at, reference) = (model::pos(first) as u64, model::reference_total(first));
         let past = at == END || (reference <= END && at + reference > END);
         return past.then_some(Class::FirstEndPastI32);
     }

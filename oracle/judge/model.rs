@@ -1,7 +1,8 @@
-//! Document 01 read literally: which answer an input gets, with which number and place, and what
-//! a shared position becomes. Written from the document alone, plainly and slowly. It is the judge
-//! of refusals, and of the few inputs on which the published Rust wraps or panics.
-use crate::record::{LAST, MOST, pack, unpack};
+//! Document 01 read literally, the one text of it in Rust: which answer an input gets, with which
+//! number and place, and what a shared position becomes. Written from the document alone, plainly
+//! and slowly. It is the judge of refusals, and of the few inputs on which the published Rust wraps
+//! or panics.
+use crate::record::{LAST, MOST, pack, unpack, uses};
 
 #[derive(Clone, Copy, Debug, PartialEq, Eq)]
 pub enum Answer {
@@ -87,23 +88,20 @@ pub fn operations(r: &[u8]) -> Vec<(u64, u64)> {
     let op = |k| number(r, operations_at(r) + 4 * k, 4);
     (0..operation_count(r)).map(|k| (op(k) % 16, op(k) / 16)).collect()
 }
-fn both(code: u64) -> bool {
-    "M=X".contains(letter(code))
-}
 fn uses_read(code: u64) -> bool {
-    "MIS=X".contains(letter(code))
+    uses(code as u32).0
 }
 fn uses_reference(code: u64) -> bool {
-    "MDN=X".contains(letter(code))
-}
-fn letter(code: u64) -> char {
-    b"MIDNSHP=X"[code as usize] as char
+    uses(code as u32).1
 }
 fn total(ops: &[(u64, u64)], uses: fn(u64) -> bool) -> u64 {
     ops.iter().filter(|o| uses(o.0)).map(|o| o.1).sum()
 }
 pub fn read_total(r: &[u8]) -> u64 {
     total(&operations(r), uses_read)
+}
+pub fn reference_total(r: &[u8]) -> u64 {
+    total(&operations(r), uses_reference)
 }
 
 /// 5 to 8 of the table, in the order of step 7.
@@ -117,10 +115,10 @@ fn operations_fault(r: &[u8]) -> Option<u32> {
             return Some(6);
         }
     }
-    if l_seq(r) > 0 && !ops.is_empty() && total(&ops, uses_read) != l_seq(r) {
+    if l_seq(r) > 0 && !ops.is_empty() && read_total(r) != l_seq(r) {
         return Some(7);
     }
-    if pos(r) + total(&ops, uses_reference) as i64 > LAST {
+    if pos(r) + reference_total(r) as i64 > LAST {
         return Some(8);
     }
     None
@@ -136,7 +134,7 @@ fn sitting(r: &[u8]) -> Vec<(i64, usize)> {
     }
     let (mut reads, mut references) = (0, 0);
     for (code, length) in operations(r) {
-        if both(code) {
+        if uses_read(code) && uses_reference(code) {
             all.extend((0..length).map(|k| (pos(r) + 1 + (references + k) as i64, (reads + k) as usize)));
         }
         reads += if uses_read(code) { length } else { 0 };

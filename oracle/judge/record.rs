@@ -35,7 +35,7 @@ pub struct Read {
     pub unread: [u8; 15],
 }
 
-/// Does the operation use the read, does it use the reference? (SAM's table.)
+/// Does the operation use the read, does it use the reference? (SAM's table; codes above 8 use nothing.)
 pub fn uses(code: u32) -> (bool, bool) {
     (matches!(code, M | I | S | EQ | X), matches!(code, M | D | N | EQ | X))
 }
