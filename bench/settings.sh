@@ -1,3 +1,4 @@
+# shellcheck shell=sh
 # Read by the scripts of this folder: the settings of scripts/settings.sh, and how instructions are counted.
 #   COUNT   callgrind, on an x86-64 machine, or icount, on any: icount.c under qemu-user, which counts x86-64 programs.
 #           Then times are left out, and the Rust's instructions: on another machine rustc makes no x86-64 program.

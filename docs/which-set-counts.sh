@@ -9,14 +9,14 @@ need_program_filed
 work=$(mktemp -d)
 trap 'rm -rf "$work"' EXIT
 
-bytes() { for h; do printf "\\$(printf %03o "0x$h")"; done; }
+bytes() { for h in $1; do printf %b "\\0$(printf %03o "0x$h")"; done; } # HEXADECIMAL
 
 # A group of two reads named "a", both 4M at position 10: bases and qualities of the first and
 # of the second, each as six bytes.
 group() { # FILE FIRST SECOND
     core='0 0 0 0 9 0 0 0 2 3C 49 12 1 0'
     rest='4 0 0 0 0 0 0 0 9 0 0 0 4 0 0 0 61 0 40 0 0 0'
-    { bytes 2C 0 0 0 $core 41 0 $rest $2; bytes 2C 0 0 0 $core 81 0 $rest $3; } >"$work/$1"
+    { bytes "2C 0 0 0 $core 41 0 $rest $2"; bytes "2C 0 0 0 $core 81 0 $rest $3"; } >"$work/$1"
 }
 
 # One run of the step (Consensus for both): reads a set, writes the next, prints the program's line.
@@ -29,21 +29,22 @@ step() { # FROM TO
 
 # Bases and qualities of both reads of a set.
 show() { # FILE
-    for read in 0 1; do
-        set -- "$1" $(od -An -v -tu1 -j $((48 * read + 42)) -N 6 "$work/$1")
-        b1=$2 b2=$3
-        printf '   '
-        for base in $((b1 / 16)),$4 $((b1 % 16)),$5 $((b2 / 16)),$6 $((b2 % 16)),$7; do
-            letter=$(printf '=ACMGRSVTWYHKDBN' | cut -c $((${base%,*} + 1)))
-            printf '  %s %2d' "$letter" "${base#*,}"
-        done
+    for mate in 0 1; do
+        od -An -v -tu1 -j $((48 * mate + 42)) -N 6 "$work/$1" | {
+            read -r b1 b2 q1 q2 q3 q4
+            printf '   '
+            for base in $((b1 / 16)),"$q1" $((b1 % 16)),"$q2" $((b2 / 16)),"$q3" $((b2 % 16)),"$q4"; do
+                letter=$(printf '=ACMGRSVTWYHKDBN' | cut -c $((${base%,*} + 1)))
+                printf '  %s %2d' "$letter" "${base#*,}"
+            done
+        }
     done
     echo
 }
 
 # A set with a raw trailer behind it: Consensus for both, 2 records, 96 bytes.
 filed() { # FROM TO
-    { cat "$work/$1"; bytes 0 0 0 0 0 0 2 0 0 0; head -c 32 /dev/zero; bytes 60 0 0 0 0 0 0 0; } >"$work/$2"
+    { cat "$work/$1"; bytes '0 0 0 0 0 0 2 0 0 0'; head -c 32 /dev/zero; bytes '60 0 0 0 0 0 0 0'; } >"$work/$2"
 }
 
 # One run on a filed group: as `step`.
@@ -56,6 +57,14 @@ filed_step() { # FROM TO
 
 compare() { # FILE FILE WORDS
     if cmp -s "$work/$1" "$work/$2"; then echo "$3: the same, byte for byte"; else echo "$3: different"; fi
+}
+
+once_more() { # FROM TO, and the last quality of each
+    step "$1" next >"$work/line"
+    compare next "$2" "  the set with $3, run once more, against the set with $4"
+}
+of_raw() { # TO, and its last quality
+    compare next "$1" "  the raw set, run once, against the set with $2"
 }
 
 tell() {
@@ -71,18 +80,16 @@ tell() {
     done
     echo
     echo 'From the three sets alone: their order'
-    for pair in 'one two 24 48' 'two three 48 93' 'one three 24 93' 'three two 93 48'; do
-        set -- $pair
-        step $1 next >"$work/line"
-        compare next $2 "  the set with $3, run once more, against the set with $4"
-    done
+    once_more one two 24 48
+    once_more two three 48 93
+    once_more one three 24 93
+    once_more three two 93 48
     echo
     echo 'With the raw set: which one had a single run'
     step raw next >"$work/line"
-    for pair in 'one 24' 'two 48' 'three 93'; do
-        set -- $pair
-        compare next $1 "  the raw set, run once, against the set with $2"
-    done
+    of_raw one 24
+    of_raw two 48
+    of_raw three 93
     echo
     echo 'What the bytes cannot tell: a 24 from one run, and a 24 from two'
     group twelve '11 11 C C C C' '11 11 C C C C'
@@ -106,7 +113,7 @@ tell | tee "$work/told"
 [ "${1:-}" = --check ] || exit 0
 page=$root/docs/WHICH-SET-COUNTS.md
 # the page spreads the same lines over its sections
-sed -n '/^```text$/,/^```$/p' "$page" | sed '/^```/d' >"$work/page"
+awk '/^```/ { inside = /^```text$/; next } inside' "$page" >"$work/page"
 sed '/^$/d' "$work/told" >"$work/lines"
 if cmp -s "$work/lines" "$work/page"; then
     echo "WHICH-SET-COUNTS.md shows what the program does"

@@ -56,15 +56,15 @@ for build in checked plain; do
     folder=$out/$build
     mkdir -p "$folder"
     case $build in
-    checked) flags="-C overflow-checks=on -C debug-assertions=on" ;;
-    plain) flags="-C overflow-checks=off -C debug-assertions=off" ;;
+    checked) checks=on ;;
+    plain) checks=off ;;
     esac
-    flags="$flags -C metadata=$build $casts"
+    set -- -C "overflow-checks=$checks" -C "debug-assertions=$checks" -C "metadata=$build"
     for name in anyhow ahash memchr; do
-        library "$folder" $name "$root/oracle/standins/$name.rs" $flags
+        library "$folder" $name "$root/oracle/standins/$name.rs" "$@"
     done
-    library "$folder" fgumi_raw_bam "$out/raw_bam_root.rs" $flags --extern memchr="$folder/libmemchr.rlib"
-    library "$folder" published_$build "$out/consensus_root.rs" $flags \
+    with_casts library "$folder" fgumi_raw_bam "$out/raw_bam_root.rs" "$@" --extern memchr="$folder/libmemchr.rlib"
+    with_casts library "$folder" published_$build "$out/consensus_root.rs" "$@" \
         --extern anyhow="$folder/libanyhow.rlib" --extern ahash="$folder/libahash.rlib" \
         --extern fgumi_raw_bam="$folder/libfgumi_raw_bam.rlib"
 done

@@ -13,7 +13,7 @@ set -eu
 . "$(dirname "$0")/settings.sh"
 arm=${ARM_ROOT:-$root/../armroot}
 made=$arm/made$root
-kit=$(kit) home=${kit%/on/*}
+home=$(kit) home=${home%/on/*}
 [ "$(id -u)" = 0 ] || missing "the right to do this" "being root"
 
 # A user namespace of our own, with all users in it, may say what runs programs for arm64. The rest of the machine
@@ -22,6 +22,7 @@ enter() { # WORD..
     go=$(mktemp -u)
     mkfifo "$go"
     { read -r _ <"$go"; for map in uid_map gid_map; do echo 0 0 65536 >/proc/$$/$map; done; echo >"$go"; rm "$go"; } &
+    # shellcheck disable=SC2016 # the words are for the inner shell to expand
     exec unshare --user sh -c 'echo >"$0"; read -r _ <"$0"; exec unshare --mount --pid --fork --mount-proc "$@"' "$go" sh "$0" inside "$@"
 }
 inside() { # WORD..
@@ -41,6 +42,7 @@ inside() { # WORD..
         chmod +x "$arm/tmp/quick"
         mount --bind "$arm/tmp/quick" "$arm$home/on/aarch64/toolchain/bin/qemu-x86_64"
     fi
+    # shellcheck disable=SC2016 # the words are for the inner shell to expand
     exec chroot "$arm" /usr/bin/env -i PATH="$home/bin:/usr/sbin:/usr/bin" HOME=/root PUBLISHED="$PUBLISHED" \
         sh -c 'cd "$0" && exec "$@"' "$root" "$@"
 }

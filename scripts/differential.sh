@@ -35,7 +35,7 @@ full) pairs=16000000 few=3000000 groups=120000 ;;
 esac
 native || groups=$((${groups:-0} / 5))     # each starts the program anew, which takes longer under the emulator
 judge=$root/target/oracle/judge
-[ "$size" = groups ] && [ -x "$judge" ] || "$root/oracle/build.sh" "$PUBLISHED" "$ARCHIVE"
+if [ "$size" != groups ] || [ ! -x "$judge" ]; then "$root/oracle/build.sh" "$PUBLISHED" "$ARCHIVE"; fi
 echo "seed $seed"
 if [ "$size" = lists ]; then
     exec "$judge" short 3 3 2 "$seed"
@@ -44,9 +44,9 @@ if [ "$size" != groups ]; then
     "$judge" classes >"$root/target/oracle/classes.out"
     echo "the smallest inputs of the known classes do what docs/DIFFERENCES.md says"
     "$judge" limits
-    "$judge" random "$seed" $pairs
-    "$judge" damaged "$seed" $few
-    "$judge" extremes "$seed" $few
+    "$judge" random "$seed" "$pairs"
+    "$judge" damaged "$seed" "$few"
+    "$judge" extremes "$seed" "$few"
     "$judge" short 3 3 1 "$seed"
     "$judge" short 2 2 2 "$seed"
 fi
@@ -57,6 +57,6 @@ fi
 if [ "$size" != pairs ]; then
     need_program
     "$judge" group-limits "$PROGRAM"
-    "$judge" groups "$PROGRAM" "$seed" $groups
+    "$judge" groups "$PROGRAM" "$seed" "$groups"
     "$root/scripts/store-answers.sh" --check
 fi

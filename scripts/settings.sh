@@ -1,3 +1,4 @@
+# shellcheck shell=sh
 # Read by the other scripts: where things are. Each may be set from outside.
 #   ARCHIVE        the static library that exports overlap_call and the calls on filed groups
 #   PROGRAM        the program `overlap`
@@ -47,14 +48,18 @@ GET_RUSTC="apt-get install rustc, on Debian 13 or later (1.85 or newer is needed
 have_rustc() { rustc --edition 2024 --print sysroot >/dev/null 2>&1; }
 need_rustc() { have_rustc || missing "a rustc that knows edition 2024" "$GET_RUSTC"; }
 
-# The published Rust uses casts that rustc counts as finished from 1.87 on. Debian 13's 1.85 has them too: `rustc $casts` takes them.
+# The published Rust uses casts that rustc counts as finished from 1.87 on. Debian 13's 1.85 has them too, where it is told.
 take_casts() { # FOLDER-FOR-A-TRY
     casts=
     echo 'pub fn f(n: u32) -> i32 { n.cast_signed() }' >"$1/casts.rs"
     if ! rustc --crate-type rlib --emit metadata "$1/casts.rs" -o "$1/casts.rmeta" 2>/dev/null; then
         export RUSTC_BOOTSTRAP=1
-        casts='-Z crate-attr=feature(integer_sign_cast)'
+        casts='crate-attr=feature(integer_sign_cast)'
     fi
+}
+with_casts() { # COMMAND WORD..: runs it, with what take_casts found behind it
+    if [ -n "$casts" ]; then set -- "$@" -Z "$casts"; fi
+    "$@"
 }
 
 # The archive and the programs are x86-64 code. On another machine the kit's emulator runs a program, from a script

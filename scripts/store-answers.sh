@@ -11,7 +11,7 @@ groups=$root/oracle/stored/groups.bin
 fresh=$root/target/oracle/stored
 need_tool python3
 need_archive
-[ "${1:-}" = --check ] && [ -x "$root/target/oracle/judge" ] || "$root/oracle/build.sh" "$PUBLISHED" "$ARCHIVE"
+if [ "${1:-}" != --check ] || [ ! -x "$root/target/oracle/judge" ]; then "$root/oracle/build.sh" "$PUBLISHED" "$ARCHIVE"; fi
 mkdir -p "$fresh"
 "$root/target/oracle/judge" store "$fresh" $seed
 if [ "${1:-}" = --check ]; then

@@ -25,7 +25,7 @@ compile_test() { # FOLDER SOURCE OUTPUT: a test of the headers in FOLDER, withou
 corrects() { # INPUT EXIT TEXT OUTPUT
     code=0
     "$out/correct" <"$1" >"$out/corrected" 2>"$out/said" || code=$?
-    [ "$code" = "$2" ] && [ "$(cat "$out/said")" = "correct: $3" ] || wrong "correct on $1: exit $code, $(cat "$out/said")"
+    if [ "$code" != "$2" ] || [ "$(cat "$out/said")" != "correct: $3" ]; then wrong "correct on $1: exit $code, $(cat "$out/said")"; fi
     cmp "$out/corrected" "$4"
 }
 test_correct() {
@@ -44,7 +44,7 @@ test_apart() {
     compile_test "$root/hosts/c" apart.c "$out/apart"
     "$out/apart"
     compile_c "$root/tests/c/in_place.c" "$out/in-place"
-    if (ulimit -c 0; "$out/in-place" || exit 1) >"$out/said" 2>&1; then wrong "a group was corrected in place"; fi
+    if ("$out/in-place" || exit 1) >"$out/said" 2>&1; then wrong "a group was corrected in place"; fi
     grep -q 'overlap_apart(filed, len, out, len)' "$out/said" || wrong "in place: $(cat "$out/said")"
     echo "the C host asserts that a group isn't corrected in place"
 }

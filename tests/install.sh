@@ -33,7 +33,9 @@ else
     echo "there is no pkg-config: overlap.pc is read by hand"
     flags=$(sed -n -e 's/^Cflags: //p' -e 's/^Libs: //p' "$pc/overlap.pc" | sed -e "s|\${libdir}|$out/usr/lib|" -e "s|\${includedir}|$out/usr/include|")
 fi
-"$CC" -std=c11 -Wall -Wextra -Werror "$root/hosts/c/host.c" $flags -o "$out/host"
+set --
+for flag in $flags; do set -- "$@" "$flag"; done
+"$CC" -std=c11 -Wall -Wextra -Werror "$root/hosts/c/host.c" "$@" -o "$out/host"
 "$out/host" | cmp - "$root/hosts/c/expected.txt"
 echo "the host compiled with the installed archive prints what is stored"
 

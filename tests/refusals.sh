@@ -20,21 +20,21 @@ verdict() { # EXPECTED GOT
     printf 'in the box under "%s"\n expected: %s\n got:      %s\n' "$title" "$1" "$2"
 }
 start() {
-    kind='' ways='' out_len='' counts='' first='' second='' group='' input='' answer='' output=''
+    kind='' agreement='' disagreement='' out_len='' counts='' first='' second='' group='' input='' answer='' output=''
     first_after='' second_after='' out_after='' counts_after=''
 }
 run_pair() {
     want="answer $answer "
     [ -z "$first_after" ] || want="${want}first $(plain "$first_after") second $(plain "$second_after") counts $(plain "$counts_after") "
-    verdict "$want" "$("$try" pair $ways "$counts" "$first" "$second" | tr '\n' ' ')"
+    verdict "$want" "$("$try" pair "$agreement" "$disagreement" "$counts" "$first" "$second" | tr '\n' ' ')"
 }
 run_filed() { # of a corrected group, the box may leave out what becomes of the output and of the counts
-    want="answer $answer " dropped=
+    want="answer $answer " no_out='' no_counts=''
     [ -z "$out_after" ] || want="${want}out $(plain "$out_after") "
     [ -z "$counts_after" ] || want="${want}counts $(plain "$counts_after") "
-    [ -n "$out_after" ] || [ "$answer" != 0 ] || dropped="-e /^out/d"
-    [ -n "$counts_after" ] || [ "$answer" != 0 ] || dropped="$dropped -e /^counts/d"
-    verdict "$want" "$("$try" filed "$out_len" "$counts" "$group" | sed -e '' $dropped | tr '\n' ' ')"
+    [ -n "$out_after" ] || [ "$answer" != 0 ] || no_out=/^out/d
+    [ -n "$counts_after" ] || [ "$answer" != 0 ] || no_counts=/^counts/d
+    verdict "$want" "$("$try" filed "$out_len" "$counts" "$group" | sed -e "$no_out" -e "$no_counts" | tr '\n' ' ')"
 }
 run_program() { # PROGRAM
     verdict "$output" "$("$try" bytes "$input" | "$1" | tr -d '\0' | LC_ALL=C head -n 1)"
@@ -62,11 +62,13 @@ while IFS= read -r line; do
     no,'### '*) title=${line#'### '} ;;
     no,'```case') inside=yes; start ;;
     yes,'```') inside=no; finish ;;
-    yes,'pair '*) kind=pair; counts=${line#*counts }; ways=${line#pair }; ways=${ways%% counts*} ;;
+    yes,'pair '*)
+        kind=pair counts=${line#*counts } ways=${line#pair }
+        ways=${ways%% counts*} agreement=${ways%% *} disagreement=${ways#* } ;;
     yes,'filed '*) kind=filed; counts=${line#*counts }; out_len=${line#filed }; out_len=${out_len%% counts*} ;;
     yes,'group '*) group=${line#group } ;;
     yes,'program '*) kind=program; input=${line#program } ;;
-    yes,'program-filed '*) kind=program-filed; input=${line#program-filed } ;;
+    yes,'program-filed '*) kind='program-filed'; input=${line#program-filed } ;;
     yes,'output '*) output=${line#output } ;;
     yes,'answer '*) answer=${line#answer } ;;
     yes,'first becomes '*) first_after=${line#first becomes } ;;
