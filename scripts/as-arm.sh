@@ -13,7 +13,8 @@ set -eu
 . "$(dirname "$0")/settings.sh"
 arm=${ARM_ROOT:-$root/../armroot}
 made=$arm/made$root
-home=$(kit) home=${home%/on/*}
+home=$(kit)
+home=${home%/on/*}
 [ "$(id -u)" = 0 ] || missing "the right to do this" "being root"
 
 # A user namespace of our own, with all users in it, may say what runs programs for arm64. The rest of the machine
