@@ -178,36 +178,35 @@ pub enum Numbered {
     Refused(Refusal),
 }
 
-// 0 is Consensus, 1 MaxQual, 2 PassThrough.
+// 0 is Consensus, 1 MaxQual, 2 PassThrough. No number comes to the last arm: with an arm for each of
+// the three the compiler takes the number itself for the strategy.
 fn agreement_of(n: u32) -> AgreementStrategy
     requires { ⌜ n < 3 ⌝ }
     ensures { λ r. ⌜ some r ≡ agreementOf n ⌝ }
 {
-    if n == 0 {
-        return AgreementStrategy::Consensus;
+    match n {
+        0 => AgreementStrategy::Consensus,
+        1 => AgreementStrategy::MaxQual,
+        2 => AgreementStrategy::PassThrough,
+        _ => AgreementStrategy::Consensus,
     }
-    if n == 1 {
-        return AgreementStrategy::MaxQual;
-    }
-    AgreementStrategy::PassThrough
 }
 
-// 0 is Consensus, 1 MaskBoth, 2 MaskLowerQual.
+// 0 is Consensus, 1 MaskBoth, 2 MaskLowerQual, in arms as above.
 fn disagreement_of(n: u32) -> DisagreementStrategy
     requires { ⌜ n < 3 ⌝ }
     ensures { λ r. ⌜ some r ≡ disagreementOf n ⌝ }
 {
-    if n == 0 {
-        return DisagreementStrategy::Consensus;
+    match n {
+        0 => DisagreementStrategy::Consensus,
+        1 => DisagreementStrategy::MaskBoth,
+        2 => DisagreementStrategy::MaskLowerQual,
+        _ => DisagreementStrategy::Consensus,
     }
-    if n == 1 {
-        return DisagreementStrategy::MaskBoth;
-    }
-    DisagreementStrategy::MaskLowerQual
 }
 
 // The number that stands for a strategy of agreement.
-pub fn agreement_number(m: AgreementStrategy) -> u32
+fn agreement_number(m: AgreementStrategy) -> u32
     ensures { λ r. ⌜ some m ≡ agreementOf r ⌝ }
 {
     match m {
@@ -218,13 +217,33 @@ pub fn agreement_number(m: AgreementStrategy) -> u32
 }
 
 // The number that stands for a strategy of disagreement.
-pub fn disagreement_number(k: DisagreementStrategy) -> u32
+fn disagreement_number(k: DisagreementStrategy) -> u32
     ensures { λ r. ⌜ some k ≡ disagreementOf r ⌝ }
 {
     match k {
         DisagreementStrategy::Consensus => 0,
         DisagreementStrategy::MaskBoth => 1,
         DisagreementStrategy::MaskLowerQual => 2,
+    }
+}
+
+// The numbers of the two strategies of a call, as a host hands them in.
+pub struct Numbers {
+    pub agreement: u32,
+    pub disagreement: u32,
+}
+
+// The numbers that stand for both strategies.
+pub fn numbers_of(w: Strategies) -> Numbers
+    ensures { λ r. ⌜ Numbered.Are w ≡ numberedOf (r .agreement) (r .disagreement) ⌝ }
+{
+    let m = w.agreement;
+    let k = w.disagreement;
+    let agreement = agreement_number(m);
+    let disagreement = disagreement_number(k);
+    Numbers {
+        agreement,
+        disagreement,
     }
 }
 

@@ -64,12 +64,15 @@ fn overlaps(code: u32) -> usize
 fn treat(first: &mut [u8], second: &mut [u8], w: Strategies) -> Applied
     ensures { λ r. ⌜ Treats w (now (first .entry)) (now (second .entry)) (now (first .exit)) (now (second .exit)) r ⌝ }
 {
-    let m = w.agreement;
-    let k = w.disagreement;
-    let agreement = strategy::agreement_number(m);
-    let disagreement = strategy::disagreement_number(k);
+    let numbers = strategy::numbers_of(w);
     let mut counts = [0u8; 32];
-    let code = pair_code::call(first, second, agreement, disagreement, &mut counts);
+    let code = pair_code::call(
+        first,
+        second,
+        numbers.agreement,
+        numbers.disagreement,
+        &mut counts,
+    );
     let growth = tally::counts_at(&counts, 0);
     let overlapping = overlaps(code);
     Applied {
