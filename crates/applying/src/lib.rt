@@ -59,13 +59,10 @@ fn apply_parts(
 {
     let n = to - from;
     copy(&mut room[0..n], &buf[from..to]);
-    let m = w.agreement;
-    let k = w.disagreement;
     let called = pair::call(
         &mut buf[start..end],
         &mut room[0..n],
-        m,
-        k,
+        w,
         CorrectionStats::new(),
     );
     copy(&mut buf[from..to], &room[0..n]);

@@ -5,6 +5,7 @@ use stats::CorrectionStats;
 use stats::Merged;
 use strategy::AgreementStrategy;
 use strategy::DisagreementStrategy;
+use strategy::Strategies;
 ghost use Prim.Native.Nat.{_<_, _≤_};
 
 fn say(text: &[u8]) {
@@ -135,17 +136,19 @@ fn say_one(s: &[u8]) {
     say(b" ");
 }
 
+// Bases that agree by Consensus, and those that disagree as asked.
+fn strategies(disagreement: DisagreementStrategy) -> Strategies {
+    Strategies {
+        agreement: AgreementStrategy::Consensus,
+        disagreement,
+    }
+}
+
 // Two records of one base each, and what they become. The number is the growth of `corrected`.
-fn treat(first: &mut [u8], second: &mut [u8], k: DisagreementStrategy) {
+fn treat(first: &mut [u8], second: &mut [u8], w: Strategies) {
     say_one(first);
     say_one(second);
-    let called = pair::call(
-        first,
-        second,
-        AgreementStrategy::Consensus,
-        k,
-        CorrectionStats::new(),
-    );
+    let called = pair::call(first, second, w, CorrectionStats::new());
     let counts = called.stats;
     say(b"become ");
     say_one(first);
@@ -154,12 +157,12 @@ fn treat(first: &mut [u8], second: &mut [u8], k: DisagreementStrategy) {
     say(b"\n");
 }
 
-fn one(k: DisagreementStrategy, x: u8, a: u8, y: u8, b: u8) {
+fn one(w: Strategies, x: u8, a: u8, y: u8, b: u8) {
     let mut first = [0u8; 64];
     let mut second = [0u8; 64];
     lay_one(&mut first, x, a);
     lay_one(&mut second, y, b);
-    treat(&mut first, &mut second, k);
+    treat(&mut first, &mut second, w);
 }
 
 // The offsets of two bases that met, from the first one's offset and quality: the qualities were
@@ -182,9 +185,8 @@ fn say_all_met(first: &[u8], qualities: usize)
 
 // The answer for two records, with both strategies Consensus.
 fn call(first: &mut [u8], second: &mut [u8]) {
-    let m = AgreementStrategy::Consensus;
-    let k = DisagreementStrategy::Consensus;
-    let called = pair::call(first, second, m, k, CorrectionStats::new());
+    let w = strategies(DisagreementStrategy::Consensus);
+    let called = pair::call(first, second, w, CorrectionStats::new());
     let answer = called.answer;
     say_answer(answer);
 }
@@ -215,7 +217,7 @@ fn bare(name1: u8, name2: u8) {
 
 // What two bases at one position become. Code 1 is A, and 8 is T.
 fn treated() {
-    let better = DisagreementStrategy::Consensus;
+    let better = strategies(DisagreementStrategy::Consensus);
     one(better, 1, 30, 1, 20);
     one(better, 1, 60, 1, 40);
     one(better, 1, 255, 1, 255);
@@ -225,7 +227,8 @@ fn treated() {
     one(better, 8, 31, 1, 30);
     one(better, 8, 30, 1, 30);
     one(better, 8, 255, 1, 30);
-    one(DisagreementStrategy::MaskLowerQual, 8, 10, 1, 30);
+    let masked = strategies(DisagreementStrategy::MaskLowerQual);
+    one(masked, 8, 10, 1, 30);
 }
 
 // Which bases meet. The paper's pos 2147483642 is position 2147483643 when counted from 1.

@@ -5,8 +5,7 @@ use pair::Called;
 use refusal::Refusal;
 use stats::CorrectionStats;
 use stats::Merged;
-use strategy::AgreementStrategy;
-use strategy::DisagreementStrategy;
+use strategy::Strategies;
 ghost use mathlib.Core.Path.{_≡_};
 ghost use Rattle.stats.specs.Counts.{zeroed};
 ghost use Rattle.positions.specs.Step.{state};
@@ -47,28 +46,22 @@ pub fn merge_kept(stats: CorrectionStats, other: CorrectionStats) -> MergeCalled
 pub fn call_lent<'a, 'b, 's>(
     first: &'a mut [u8],
     second: &'b mut [u8],
-    agreement: AgreementStrategy,
-    disagreement: DisagreementStrategy,
+    w: Strategies,
     stats: &'s mut CorrectionStats,
 ) -> Answer
-    ensures { λ r. ⌜ outcome r (state (now (first .exit)) (now (second .exit)) (now (stats .exit))) ≡ pairOf (record { agreement = agreement; disagreement = disagreement }) (state (now (first .entry)) (now (second .entry)) (now (stats .entry))) ⌝ }
+    ensures { λ r. ⌜ outcome r (state (now (first .exit)) (now (second .exit)) (now (stats .exit))) ≡ pairOf w (state (now (first .entry)) (now (second .entry)) (now (stats .entry))) ⌝ }
 {
-    let called = pair::call(first, second, agreement, disagreement, *stats);
+    let called = pair::call(first, second, w, *stats);
     *stats = called.stats;
     called.answer
 }
 
 // The same with counts that begin at zero and are given back, for a caller that lends none.
-pub fn call_anew<'a, 'b>(
-    first: &'a mut [u8],
-    second: &'b mut [u8],
-    agreement: AgreementStrategy,
-    disagreement: DisagreementStrategy,
-) -> Called
-    ensures { λ r. ⌜ outcome (r .answer) (state (now (first .exit)) (now (second .exit)) (r .stats)) ≡ pairOf (record { agreement = agreement; disagreement = disagreement }) (state (now (first .entry)) (now (second .entry)) zeroed) ⌝ }
+pub fn call_anew<'a, 'b>(first: &'a mut [u8], second: &'b mut [u8], w: Strategies) -> Called
+    ensures { λ r. ⌜ outcome (r .answer) (state (now (first .exit)) (now (second .exit)) (r .stats)) ≡ pairOf w (state (now (first .entry)) (now (second .entry)) zeroed) ⌝ }
 {
     let mut stats = CorrectionStats::new();
-    let answer = call_lent(first, second, agreement, disagreement, &mut stats);
+    let answer = call_lent(first, second, w, &mut stats);
     Called { answer, stats }
 }
 

@@ -5,8 +5,6 @@ use judgement::Judged;
 use positions::Job;
 use refusal::Refusal;
 use stats::CorrectionStats;
-use strategy::AgreementStrategy;
-use strategy::DisagreementStrategy;
 use strategy::Strategies;
 ghost use mathlib.Core.Path.{_≡_};
 ghost use Rattle.stats.specs.Room.{Room};
@@ -76,8 +74,9 @@ fn call_both(
     }
 }
 
-// Two records and the counts: the order of judgement from the statistics on.
-fn call_with(w: Strategies, first: &mut [u8], second: &mut [u8], stats: CorrectionStats) -> Called
+// Corrects two records where they stand, and adds to the counts: the order of judgement from the
+// statistics on. Refused, or without an overlap, both records and the counts are as they came.
+pub fn call(first: &mut [u8], second: &mut [u8], w: Strategies, stats: CorrectionStats) -> Called
     ensures { λ r. ⌜ outcome (r .answer) (state (now (first .exit)) (now (second .exit)) (r .stats)) ≡ pairOf w (state (now (first .entry)) (now (second .entry)) stats) ⌝ }
 {
     if stats.full() {
@@ -119,26 +118,4 @@ fn call_with(w: Strategies, first: &mut [u8], second: &mut [u8], stats: Correcti
             call_both(job, first, second, p, q, stats)
         }
     }
-}
-
-// Corrects two records where they stand, and adds to the counts. Refused, or without an overlap,
-// both records and the counts are as they came.
-pub fn call(
-    first: &mut [u8],
-    second: &mut [u8],
-    agreement: AgreementStrategy,
-    disagreement: DisagreementStrategy,
-    stats: CorrectionStats,
-) -> Called
-    ensures { λ r. ⌜ outcome (r .answer) (state (now (first .exit)) (now (second .exit)) (r .stats)) ≡ pairOf (record { agreement = agreement; disagreement = disagreement }) (state (now (first .entry)) (now (second .entry)) stats) ⌝ }
-{
-    call_with(
-        Strategies {
-            agreement,
-            disagreement,
-        },
-        first,
-        second,
-        stats,
-    )
 }

@@ -28,9 +28,7 @@ pub fn call(
         return Refusal::Strategy.code();
     };
     let stats = tally::counts_at(counts, 0);
-    let m = w.agreement;
-    let k = w.disagreement;
-    let called = pair::call(first, second, m, k, stats);
+    let called = pair::call(first, second, w, stats);
     let answer = called.answer;
     match answer {
         Answer::NoOverlap => 0,

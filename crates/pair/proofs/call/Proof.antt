@@ -1,4 +1,4 @@
--- `pair::call_with` meets its contract. Assumes nothing.
+-- `pair::call` meets its contract. Assumes nothing.
 use mathlib.Core.Path.{sym, ap, _∙_}
 use Rattle.fields.proofs.CheckLaws.{good-sound}
 use Rattle.stats.proofs.CountLaws.{room-less, full-room}
@@ -9,8 +9,8 @@ use Rattle.pair.proofs.CallLaws.{call-full, call-first, call-second, ca
 use native.Mathlib.Omega.{arith}
 use denote.Ref.{now}
 use borrow.Author.Needs.{needs}
-use Rattle.pair.proofs.call_with.Statement.{statement}
-use Rattle.pair.proofs.call_with.Tie as tie
+use Rattle.pair.proofs.call.Statement.{statement}
+use Rattle.pair.proofs.call.Tie as tie
 
 full-requires : tie.Need-full-requires
 full-requires c κs = search needs
@@ -168,8 +168,8 @@ returns-6 c =
     let args = entry .args in
     by-call-both .call-both .ensures ∙ call-judged (args .w) (state (now (args .first)) (now (args .second)) (args .stats)) (sym (by-full .full .ensures) ∙ by-if1 .if1 .left) (by-checked1 .checked1 .given .0 .0) (sym (by-check-record .check-record .ensures) ∙ by-checked1 .checked1 .given .1) (by-checked2 .checked2 .given .0 .0) (by-judge .judge .result) _ (sym (by-check-record2 .check-record2 .ensures) ∙ by-checked2 .checked2 .given .1) (by-judge .judge .ensures) (by-judged2 .judged2 .given .1)
 
-pub call-with-spec : {M : Type 1} → statement M
-call-with-spec =
+pub call-spec : {M : Type 1} → statement M
+call-spec =
     tie.close
     (tie.spec
     full-requires
