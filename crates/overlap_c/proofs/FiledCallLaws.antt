@@ -8,7 +8,7 @@ use Rattle.refusal.specs.declared.Refusal.{Refusal}
 use Rattle.refusal.specs.declared.Refusal.the-variants.{CountsSlice}
 use Rattle.refusal.specs.Table.{codeOf}
 use Rattle.stats.specs.declared.CorrectionStats.{CorrectionStats}
-use Rattle.tally.specs.Tally.{countsAt, withCounts}
+use Rattle.stats.specs.Tally.{countsAt, withCounts}
 use Rattle.filed.specs.declared.FiledAnswer.the-variants.{Corrected, AlreadyDone, Refused}
 use Rattle.filed.specs.Filed.{Ended, filedOf}
 use Rattle.filing.specs.declared.Filing.{Filing}

@@ -7,7 +7,7 @@ use lib.Dec.{eqb}
 use Rattle.refusal.specs.declared.Refusal.the-variants.{CountsSlice}
 use Rattle.refusal.specs.Table.{codeOf}
 use Rattle.stats.specs.declared.CorrectionStats.{CorrectionStats}
-use Rattle.tally.specs.Tally.{countsAt, withCounts}
+use Rattle.stats.specs.Tally.{countsAt, withCounts}
 use Rattle.filed.specs.declared.FiledAnswer.{FiledAnswer}
 use Rattle.filed.specs.declared.FiledAnswer.the-variants.{Corrected, AlreadyDone, Refused}
 use Rattle.filed.specs.Filed.{Ended, filedOf}

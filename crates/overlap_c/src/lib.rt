@@ -33,7 +33,7 @@ pub extern "C" fn overlap_filed_call(filed: &[u8], out: &mut [u8], counts: &mut 
     if counts.len() != COUNTS {
         return Refusal::CountsSlice.code();
     }
-    let stats = tally::counts_at(counts, 0);
+    let stats = stats::counts_at(counts, 0);
     let called = filed::correct(filed, out, stats);
     let answer = called.answer;
     match answer {
@@ -44,7 +44,7 @@ pub extern "C" fn overlap_filed_call(filed: &[u8], out: &mut [u8], counts: &mut 
             growth: _,
         } => {
             let after = called.stats;
-            tally::put_counts(counts, 0, after);
+            stats::put_counts(counts, 0, after);
             0
         }
         FiledAnswer::AlreadyDone {

@@ -8,7 +8,7 @@ use Rattle.refusal.specs.declared.Refusal.{Refusal}
 use Rattle.refusal.specs.declared.Refusal.the-variants.{Strategy, CountsSlice}
 use Rattle.refusal.specs.Table.{codeOf}
 use Rattle.stats.specs.declared.CorrectionStats.{CorrectionStats}
-use Rattle.tally.specs.Tally.{countsAt, withCounts}
+use Rattle.stats.specs.Tally.{countsAt, withCounts}
 use Rattle.strategy.specs.declared.Strategies.{Strategies}
 use Rattle.strategy.specs.declared.Numbered.{Numbered}
 use Rattle.strategy.specs.declared.Numbered.the-variants as Numbers

@@ -27,14 +27,14 @@ pub fn call(
     let Numbered::Are(w) = numbered else {
         return Refusal::Strategy.code();
     };
-    let stats = tally::counts_at(counts, 0);
+    let stats = stats::counts_at(counts, 0);
     let called = pair::call(first, second, w, stats);
     let answer = called.answer;
     match answer {
         Answer::NoOverlap => 0,
         Answer::Overlap => {
             let after = called.stats;
-            tally::put_counts(counts, 0, after);
+            stats::put_counts(counts, 0, after);
             1
         }
         Answer::Refused(r) => r.code(),

@@ -15,8 +15,8 @@ use Rattle.stats.specs.declared.CorrectionStats.{CorrectionStats}
 use Rattle.stats.specs.Counts.{zeroed, above}
 use Rattle.stats.specs.Room.{AtMost}
 use Rattle.stats.proofs.CountLaws.{counts-as}
-use Rattle.tally.specs.Tally.{countsAt}
-use Rattle.tally.proofs.TallyLaws.{read-back, length-with, with-before, with-after}
+use Rattle.stats.specs.Tally.{countsAt}
+use Rattle.stats.proofs.TallyLaws.{read-back, length-with, with-before, with-after}
 use Rattle.trailer.specs.declared.Trailer.{Trailer}
 use Rattle.trailer.specs.Trailer.{trailerAt, wrong, stamped, rawTrailer, rawIn}
 

@@ -7,7 +7,7 @@ use lib.ListN.{drop, set, replicate}
 use Rattle.fields.specs.Number.{unsigned, put}
 use Rattle.stats.specs.declared.CorrectionStats.{CorrectionStats}
 use Rattle.stats.specs.Counts.{above}
-use Rattle.tally.specs.Tally.{countsAt, withCounts}
+use Rattle.stats.specs.Tally.{countsAt, withCounts}
 use Rattle.trailer.specs.declared.Trailer.{Trailer}
 
 -- each field of the trailer that begins at p, from its width and its offset

@@ -28,7 +28,7 @@ pub fn read(s: &[u8], at: usize) -> Trailer
     let state = s[at + 4];
     let strategies = s[at + 5];
     let records = fields::u32_at(s, at + 6);
-    let growth = tally::counts_at(s, at + 10);
+    let growth = stats::counts_at(s, at + 10);
     let distance = fields::u64_at(s, at + 42);
     Trailer {
         state,
@@ -86,7 +86,7 @@ pub fn stamp(t: &mut [u8], g: CorrectionStats)
     ensures { λ _. ⌜ now (t .exit) ≡ stamped (now (t .entry)) g ⌝ }
 {
     t[4] = 1;
-    tally::put_counts(t, 10, g);
+    stats::put_counts(t, 10, g);
 }
 
 // Writes the trailer of a raw group, front to back, over the first 50 bytes of t.

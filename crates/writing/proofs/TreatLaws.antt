@@ -14,8 +14,8 @@ use Rattle.stats.specs.declared.CorrectionStats.{CorrectionStats}
 use Rattle.stats.specs.Counts.{zeroed}
 use Rattle.stats.specs.Room.{AtMost}
 use Rattle.stats.proofs.CountLaws.{most-less}
-use Rattle.tally.specs.Tally.{countsAt, withCounts}
-use Rattle.tally.proofs.TallyLaws.{read-back}
+use Rattle.stats.specs.Tally.{countsAt, withCounts}
+use Rattle.stats.proofs.TallyLaws.{read-back}
 use Rattle.strategy.specs.declared.Strategies.{Strategies}
 use Rattle.strategy.specs.declared.Numbered.the-variants as Numbers
 use Rattle.strategy.specs.Number.{numberedOf}

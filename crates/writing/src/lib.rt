@@ -73,7 +73,7 @@ fn treat(first: &mut [u8], second: &mut [u8], w: Strategies) -> Applied
         numbers.disagreement,
         &mut counts,
     );
-    let growth = tally::counts_at(&counts, 0);
+    let growth = stats::counts_at(&counts, 0);
     let overlapping = overlaps(code);
     Applied {
         pairs: 1,

@@ -7,8 +7,8 @@ use Rattle.overlap_c.proofs.overlap_filed_call.Statement.{statement}
 use Rattle.overlap_c.proofs.overlap_filed_call.Tie as tie
 use Rattle.filed.proofs.correct.Reads as correct-reads
 use Rattle.refusal.proofs.Refusal.code.Reads as code-reads
-use Rattle.tally.proofs.counts_at.Reads as counts-at-reads
-use Rattle.tally.proofs.put_counts.Reads as put-counts-reads
+use Rattle.stats.proofs.counts_at.Reads as counts-at-reads
+use Rattle.stats.proofs.put_counts.Reads as put-counts-reads
 
 code-requires : tie.Need-code-requires
 code-requires c κs = search needs

@@ -6,10 +6,10 @@ use native.Mathlib.Omega.{arith}
 use lib.ListN.{length, getD}
 use Rattle.fields.specs.Number.{unsigned, put}
 use Rattle.fields.proofs.NumberLaws.{length-put, put-before, put-after, le-put, le-same}
 use Rattle.stats.specs.declared.CorrectionStats.{CorrectionStats}
 use Rattle.stats.specs.Room.{AtMost}
 use Rattle.stats.proofs.CountLaws.{counts-as}
-use Rattle.tally.specs.Tally.{countsAt, withCounts}
+use Rattle.stats.specs.Tally.{countsAt, withCounts}
 
 -- a number is read as it was where another is written behind it
 apart : (s : List ℕ) (at v from : ℕ) → at + 8 ≤ from → unsigned 8 (put 8 s from v) at ≡ unsigned 8 s at

@@ -1,7 +1,7 @@
--- `tally::counts_at` meets its contract. Assumes nothing.
+-- `stats::counts_at` meets its contract. Assumes nothing.
 use borrow.Author.Needs.{needs}
-use Rattle.tally.proofs.counts_at.Statement.{statement}
-use Rattle.tally.proofs.counts_at.Tie as tie
+use Rattle.stats.proofs.counts_at.Statement.{statement}
+use Rattle.stats.proofs.counts_at.Tie as tie
 
 u64-at-requires : tie.Need-u64-at-requires
 u64-at-requires c κs = search needs

@@ -1,11 +1,11 @@
--- `tally::put_counts` meets its contract. Assumes nothing.
+-- `stats::put_counts` meets its contract. Assumes nothing.
 use Prim.Native.Nat.{ℕ, _+_}
 use mathlib.Core.List.{List}
 use mathlib.Core.Path.{ap, _∙_}
 use Rattle.fields.specs.Number.{put}
 use borrow.Author.Needs.{needs}
-use Rattle.tally.proofs.put_counts.Statement.{statement}
-use Rattle.tally.proofs.put_counts.Tie as tie
+use Rattle.stats.proofs.put_counts.Statement.{statement}
+use Rattle.stats.proofs.put_counts.Tie as tie
 
 put-u64-requires : tie.Need-put-u64-requires
 put-u64-requires c κs = search needs
