@@ -16,21 +16,21 @@ use Rattle.stats.specs.Counts.{zeroed, full}
 use Rattle.stats.specs.Room.{AtMost}
 use Rattle.stats.proofs.CountLaws.{most-less}
 use Rattle.strategy.specs.declared.Strategies.{Strategies}
-use Rattle.frames.specs.Frame.{beginOf}
-use Rattle.frames.specs.declared.Framing.the-variants.{Whole}
-use Rattle.writing.proofs.GrowthLaws.{all-most}
+use Rattle.group_frames.specs.Frame.{beginOf}
+use Rattle.group_frames.specs.declared.Framing.the-variants.{Whole}
+use Rattle.filed_writing.proofs.GrowthLaws.{all-most}
 use Rattle.group.specs.declared.GroupAnswer.the-variants as Groups
 use Rattle.group.specs.Group as Group
 use Rattle.group.specs.Promise.{Accepted}
 use Rattle.group.proofs.PromiseLaws.{accepted, accepted-grown}
 use Rattle.group.proofs.KeptLaws.{frames-stay}
-use Rattle.ending.specs.declared.Ending.{Ending}
-use Rattle.ending.specs.declared.Ending.the-variants.{At, Missing, Broken}
-use Rattle.ending.specs.Ending.{endingOf}
-use Rattle.ending.proofs.EndLaws.{Ends, ends-of, ending-at, ends-left, one-end, ends-front, zero-left, whole-ends, before-size, before-whole}
-use Rattle.trailer.specs.declared.Trailer.{Trailer}
-use Rattle.trailer.specs.Trailer.{trailerAt, wrong, stamped}
-use Rattle.trailer.proofs.TrailerLaws.{trailer, stamped-size, stamped-reads, stamped-zero, stamped-fits, trailer-at}
+use Rattle.filed_ending.specs.declared.Ending.{Ending}
+use Rattle.filed_ending.specs.declared.Ending.the-variants.{At, Missing, Broken}
+use Rattle.filed_ending.specs.Ending.{endingOf}
+use Rattle.filed_ending.proofs.EndLaws.{Ends, ends-of, ending-at, ends-left, one-end, ends-front, zero-left, whole-ends, before-size, before-whole}
+use Rattle.filed_trailer.specs.declared.Trailer.{Trailer}
+use Rattle.filed_trailer.specs.Trailer.{trailerAt, wrong, stamped}
+use Rattle.filed_trailer.proofs.TrailerLaws.{trailer, stamped-size, stamped-reads, stamped-zero, stamped-fits, trailer-at}
 use Rattle.filed.specs.declared.FiledAnswer.the-variants.{Corrected, AlreadyDone, Refused}
 use Rattle.filed.specs.Filed.{ended, correctedWith, groupIn, onEnding, filedOf}
 use Rattle.filed.specs.Promise.{Torn, Known, Safe}

@@ -5,11 +5,11 @@ use mathlib.Core.List.{List}
 use native.Mathlib.Omega.{arith}
 use borrow.Author.Count.{below-more, below-none}
 use lib.ListN.{length}
-use Rattle.frames.specs.Table.{Placed}
-use Rattle.frames.proofs.PlaceLaws.{at-order, at-in}
-use Rattle.applying.specs.Within.{startIn, endIn}
-use Rattle.writing.specs.Short.{Short, Tabled}
-use Rattle.writing.proofs.PlaceLaws.{small}
+use Rattle.group_frames.specs.Table.{Placed}
+use Rattle.group_frames.proofs.PlaceLaws.{at-order, at-in}
+use Rattle.group_applying.specs.Within.{startIn, endIn}
+use Rattle.filed_writing.specs.Short.{Short, Tabled}
+use Rattle.filed_writing.proofs.PlaceLaws.{small}
 
 pub short-start : (begins : List ℕ) (m : ℕ) → Short begins 0 m
 short-start begins m = below-none _

@@ -15,26 +15,26 @@ use Rattle.strategy.specs.declared.Numbered.{Numbered}
 use Rattle.strategy.specs.declared.Numbered.the-variants as Numbers
 use Rattle.strategy.specs.Number.{numberedOf}
 use Rattle.strategy.proofs.NumberLaws.{refused-is}
-use Rattle.frames.specs.Frame.{beginOf, framesOf}
-use Rattle.frames.specs.declared.Framing.the-variants.{Whole}
-use Rattle.mates.specs.Register.{pairsOf}
-use Rattle.verdicts.specs.declared.Verdict.{Verdict}
-use Rattle.verdicts.specs.declared.Verdict.the-variants as Verdicts
-use Rattle.verdicts.specs.Judged.{judgeBy}
-use Rattle.verdicts.specs.Indexed.{indexedAt}
-use Rattle.applying.specs.declared.Applied.{Applied}
-use Rattle.applying.specs.Applied.{grown, overlapsIn, AppliedTo}
-use Rattle.writing.specs.Written.{corrected}
+use Rattle.group_frames.specs.Frame.{beginOf, framesOf}
+use Rattle.group_frames.specs.declared.Framing.the-variants.{Whole}
+use Rattle.group_mates.specs.Register.{pairsOf}
+use Rattle.group_verdicts.specs.declared.Verdict.{Verdict}
+use Rattle.group_verdicts.specs.declared.Verdict.the-variants as Verdicts
+use Rattle.group_verdicts.specs.Judged.{judgeBy}
+use Rattle.group_verdicts.specs.Indexed.{indexedAt}
+use Rattle.group_applying.specs.declared.Applied.{Applied}
+use Rattle.group_applying.specs.Applied.{grown, overlapsIn, AppliedTo}
+use Rattle.filed_writing.specs.Written.{corrected}
 use Rattle.group.specs.declared.Grouped.{Grouped}
 use Rattle.group.specs.declared.GroupAnswer.{GroupAnswer}
 use Rattle.group.specs.declared.GroupAnswer.the-variants as Groups
 use Rattle.group.specs.Group as Group
 use Rattle.group.proofs.GroupLaws.{no-strategy, goes-on, refused-pair, done}
-use Rattle.ending.specs.declared.Ending.{Ending}
-use Rattle.ending.specs.declared.Ending.the-variants.{At, Missing, Broken}
-use Rattle.ending.specs.Ending.{endingOf}
-use Rattle.trailer.specs.declared.Trailer.{Trailer}
-use Rattle.trailer.specs.Trailer.{trailerAt, wrong}
+use Rattle.filed_ending.specs.declared.Ending.{Ending}
+use Rattle.filed_ending.specs.declared.Ending.the-variants.{At, Missing, Broken}
+use Rattle.filed_ending.specs.Ending.{endingOf}
+use Rattle.filed_trailer.specs.declared.Trailer.{Trailer}
+use Rattle.filed_trailer.specs.Trailer.{trailerAt, wrong}
 use Rattle.filed.specs.declared.Filed.{Filed}
 use Rattle.filed.specs.declared.FiledAnswer.{FiledAnswer}
 use Rattle.filed.specs.declared.FiledAnswer.the-variants.{Corrected, AlreadyDone, Refused}

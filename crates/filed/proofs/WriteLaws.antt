@@ -11,20 +11,20 @@ use Rattle.stats.specs.Counts.{zeroed, full}
 use Rattle.stats.specs.Room.{Adds}
 use Rattle.stats.proofs.CountLaws.{full-room, room-adds}
 use Rattle.strategy.specs.declared.Strategies.{Strategies}
-use Rattle.frames.specs.Part.{part, splice}
-use Rattle.frames.specs.declared.Framing.the-variants.{Whole}
-use Rattle.frames.specs.Frame.{beginOf, framesOf}
-use Rattle.frames.specs.Table.{Placed}
-use Rattle.mates.specs.Register.{pairsOf}
-use Rattle.applying.specs.declared.Applied.{Applied}
-use Rattle.applying.specs.Applied.{grown}
-use Rattle.writing.specs.Written.{corrected, WrittenTo}
-use Rattle.writing.proofs.RecordLaws.{corrected-size}
-use Rattle.writing.proofs.GrowthLaws.{all-most}
-use Rattle.ending.specs.declared.Ending.{Ending}
-use Rattle.ending.specs.declared.Ending.the-variants.{At}
-use Rattle.ending.specs.Found.{Ended, Found}
-use Rattle.trailer.specs.Trailer.{stamped}
+use Rattle.group_frames.specs.Part.{part, splice}
+use Rattle.group_frames.specs.declared.Framing.the-variants.{Whole}
+use Rattle.group_frames.specs.Frame.{beginOf, framesOf}
+use Rattle.group_frames.specs.Table.{Placed}
+use Rattle.group_mates.specs.Register.{pairsOf}
+use Rattle.group_applying.specs.declared.Applied.{Applied}
+use Rattle.group_applying.specs.Applied.{grown}
+use Rattle.filed_writing.specs.Written.{corrected, WrittenTo}
+use Rattle.filed_writing.proofs.RecordLaws.{corrected-size}
+use Rattle.filed_writing.proofs.GrowthLaws.{all-most}
+use Rattle.filed_ending.specs.declared.Ending.{Ending}
+use Rattle.filed_ending.specs.declared.Ending.the-variants.{At}
+use Rattle.filed_ending.specs.Found.{Ended, Found}
+use Rattle.filed_trailer.specs.Trailer.{stamped}
 use Rattle.filed.specs.Filed.{correctedWith}
 use Rattle.filed.specs.Final.{Final, FiledTo}
 

@@ -6,12 +6,12 @@ use lib.ListN.{length, take, drop}
 use Rattle.stats.specs.declared.CorrectionStats.{CorrectionStats}
 use Rattle.stats.specs.Counts.{zeroed}
 use Rattle.strategy.specs.declared.Strategies.{Strategies}
-use Rattle.frames.specs.declared.Framing.the-variants.{Whole}
-use Rattle.frames.specs.Frame.{framesOf}
-use Rattle.mates.specs.Register.{pairsOf}
-use Rattle.applying.specs.declared.Applied.{Applied}
-use Rattle.applying.specs.Applied.{grown, overlapsIn}
-use Rattle.writing.specs.Written.{corrected, Front}
+use Rattle.group_frames.specs.declared.Framing.the-variants.{Whole}
+use Rattle.group_frames.specs.Frame.{framesOf}
+use Rattle.group_mates.specs.Register.{pairsOf}
+use Rattle.group_applying.specs.declared.Applied.{Applied}
+use Rattle.group_applying.specs.Applied.{grown, overlapsIn}
+use Rattle.filed_writing.specs.Written.{corrected, Front}
 use Rattle.filed.specs.Filed.{correctedWith}
 
 -- the first p bytes of the output are the frames of s as they will stay: every pair of them corrected, by some strategies, with the

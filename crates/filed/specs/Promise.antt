@@ -7,10 +7,10 @@ use lib.ListN.{length, take}
 use Rattle.refusal.specs.declared.Refusal.{Refusal}
 use Rattle.stats.specs.declared.CorrectionStats.{CorrectionStats}
 use Rattle.stats.specs.Counts.{plus, full}
-use Rattle.frames.specs.Frame.{beginOf}
-use Rattle.ending.specs.declared.Ending.the-variants.{At}
-use Rattle.ending.specs.Ending.{endingOf}
-use Rattle.trailer.specs.Trailer.{trailerAt, wrong}
+use Rattle.group_frames.specs.Frame.{beginOf}
+use Rattle.filed_ending.specs.declared.Ending.the-variants.{At}
+use Rattle.filed_ending.specs.Ending.{endingOf}
+use Rattle.filed_trailer.specs.Trailer.{trailerAt, wrong}
 use Rattle.filed.specs.declared.FiledAnswer.{FiledAnswer}
 use Rattle.filed.specs.declared.FiledAnswer.the-variants.{Corrected, AlreadyDone, Refused}
 use Rattle.filed.specs.Filed.{Ended, ended, filedOf}

@@ -1,27 +1,27 @@
 // The call on a filed group: framed records and a trailer that says whether they were corrected. A raw
 // group is corrected into another buffer, front to back; a corrected one is known and left alone.
-use applying::Applied;
-use ending::Ending;
+use filed_ending::Ending;
+use filed_trailer::Trailer;
+use group_applying::Applied;
+use group_verdicts::Verdict;
 use refusal::Refusal;
 use stats::CorrectionStats;
 use strategy::Numbered;
 use strategy::Strategies;
-use trailer::Trailer;
-use verdicts::Verdict;
 ghost use mathlib.Core.Path.{_≡_};
 ghost use mathlib.Core.Bool.{true, false};
 ghost use Prim.Native.Nat.{_+_, _≤_};
 ghost use lib.ListN.{length, take};
 ghost use Rattle.stats.specs.Counts.{full, plus};
 ghost use Rattle.stats.specs.Room.{Adds};
-ghost use Rattle.frames.specs.Part.{part, splice};
-ghost use Rattle.frames.specs.Frame.{beginOf};
-ghost use Rattle.frames.specs.Table.{Placed};
-ghost use Rattle.mates.specs.Table.{Mated};
-ghost use Rattle.ending.specs.Found.{Ended};
-ghost use Rattle.writing.specs.Short.{Short, Tabled};
-ghost use Rattle.writing.specs.Written.{WrittenTo};
-ghost use Rattle.trailer.specs.Trailer.{stamped};
+ghost use Rattle.group_frames.specs.Part.{part, splice};
+ghost use Rattle.group_frames.specs.Frame.{beginOf};
+ghost use Rattle.group_frames.specs.Table.{Placed};
+ghost use Rattle.group_mates.specs.Table.{Mated};
+ghost use Rattle.filed_ending.specs.Found.{Ended};
+ghost use Rattle.filed_writing.specs.Short.{Short, Tabled};
+ghost use Rattle.filed_writing.specs.Written.{WrittenTo};
+ghost use Rattle.filed_trailer.specs.Trailer.{stamped};
 ghost use Rattle.filed.specs.Filed.{ended, onRaw, onEnding, filedOf};
 ghost use Rattle.filed.specs.Final.{Final, FiledTo};
 
@@ -91,7 +91,7 @@ fn write_small(
 {
     let mut left = [0u8; SMALL];
     let mut right = [0u8; SMALL];
-    writing::write_all(s, begins, n, mate, lead, w, &mut left, &mut right, out)
+    filed_writing::write_all(s, begins, n, mate, lead, w, &mut left, &mut right, out)
 }
 
 // The frames of a raw group of records of any length corrected into `out`, front to back.
@@ -109,7 +109,7 @@ fn write_large(
 {
     let mut left = [0u8; 65536];
     let mut right = [0u8; 65536];
-    writing::write_all(s, begins, n, mate, lead, w, &mut left, &mut right, out)
+    filed_writing::write_all(s, begins, n, mate, lead, w, &mut left, &mut right, out)
 }
 
 // The frames of a raw group corrected into `out`, front to back: in the small rooms, and where a record is
@@ -143,9 +143,9 @@ fn put_trailer(filed: &[u8], p: usize, growth: CorrectionStats, out: &mut [u8])
     ensures { λ _. ⌜ now (out .exit) ≡ splice (now (out .entry)) p (p + 50) (stamped (part (now (filed .entry)) p (p + 50)) growth) ⌝ }
 {
     let mut t = [0u8; 50];
-    applying::copy(&mut t, &filed[p..p + trailer::SIZE]);
-    trailer::stamp(&mut t, growth);
-    applying::copy(&mut out[p..p + trailer::SIZE], &t);
+    group_applying::copy(&mut t, &filed[p..p + filed_trailer::SIZE]);
+    filed_trailer::stamp(&mut t, growth);
+    group_applying::copy(&mut out[p..p + filed_trailer::SIZE], &t);
 }
 
 // A raw filed group corrected into `out`: the frames, and then the trailer.
@@ -202,8 +202,8 @@ fn correct_raw(
         return refused(Refusal::Strategy, stats);
     };
     let mut mate = [0usize; 256];
-    mates::find(&filed[0..p], begins, n, &mut mate);
-    let v = verdicts::judge_all(&filed[0..p], begins, n, &mate);
+    group_mates::find(&filed[0..p], begins, n, &mut mate);
+    let v = group_verdicts::judge_all(&filed[0..p], begins, n, &mate);
     match v {
         Verdict::Refused(r) => refused(r, stats),
         Verdict::Passed => {
@@ -228,10 +228,10 @@ fn correct_ended(
     ensures { λ r. ⌜ ended (r .answer) (now (out .exit)) (r .stats) ≡ onEnding (now (filed .entry)) (now (out .entry)) stats (Ending.At n) ⌝ }
 {
     let p = begins[n];
-    if filed.len() - p != trailer::SIZE {
+    if filed.len() - p != filed_trailer::SIZE {
         return refused(Refusal::TrailerMissing, stats);
     }
-    let t = trailer::read(filed, p);
+    let t = filed_trailer::read(filed, p);
     if t.wrong(n, p) {
         return refused(Refusal::TrailerField, stats);
     }
@@ -254,7 +254,7 @@ pub fn correct(filed: &[u8], out: &mut [u8], stats: CorrectionStats) -> Filed
         return refused(Refusal::Count, stats);
     }
     let mut begins = [0usize; 257];
-    let e = ending::cut(filed, &mut begins);
+    let e = filed_ending::cut(filed, &mut begins);
     match e {
         Ending::Broken(r) => refused(r, stats),
         Ending::Missing => refused(Refusal::TrailerMissing, stats),

@@ -9,14 +9,14 @@ use Rattle.stats.specs.declared.CorrectionStats.{CorrectionStats}
 use Rattle.stats.specs.Counts.{zeroed}
 use Rattle.strategy.specs.declared.Strategies.{Strategies}
 use Rattle.positions.specs.Step.{State, state}
-use Rattle.merge.specs.Promise.{Outside}
+use Rattle.pair_merge.specs.Promise.{Outside}
 use Rattle.pair.specs.declared.Answer.{Answer}
 use Rattle.pair.specs.declared.Answer.the-variants as Answers
 use Rattle.pair.specs.Pair.{Outcome, outcome, pairOf}
 use Rattle.pair.proofs.PromiseLaws.{refused-keeps, apart-keeps, promise, overlap-aligned}
-use Rattle.frames.specs.Part.{part}
-use Rattle.frames.specs.Frame.{startOf, endOf, recordOf}
-use Rattle.mates.specs.Promise.{Mates}
+use Rattle.group_frames.specs.Part.{part}
+use Rattle.group_frames.specs.Frame.{startOf, endOf, recordOf}
+use Rattle.group_mates.specs.Promise.{Mates}
 use Rattle.group.specs.Promise.{Accepted}
 
 -- ---- one pair

@@ -15,11 +15,11 @@ use Rattle.strategy.specs.declared.DisagreementStrategy.{DisagreementStrategy}
 use Rattle.strategy.specs.declared.Numbered.{Numbered}
 use Rattle.strategy.specs.declared.Numbered.the-variants as Numbers
 use Rattle.strategy.specs.Number.{agreementOf, disagreementOf, both, numberedOf}
-use Rattle.frames.specs.declared.Framing.{Framing}
-use Rattle.frames.specs.declared.Framing.the-variants.{Whole, Broken}
-use Rattle.frames.specs.Frame.{framesOf}
-use Rattle.verdicts.specs.declared.Verdict.{Verdict}
-use Rattle.verdicts.specs.declared.Verdict.the-variants as Verdicts
+use Rattle.group_frames.specs.declared.Framing.{Framing}
+use Rattle.group_frames.specs.declared.Framing.the-variants.{Whole, Broken}
+use Rattle.group_frames.specs.Frame.{framesOf}
+use Rattle.group_verdicts.specs.declared.Verdict.{Verdict}
+use Rattle.group_verdicts.specs.declared.Verdict.the-variants as Verdicts
 use Rattle.group.specs.declared.GroupAnswer.the-variants.{Refused}
 use Rattle.group.specs.Group.{Ended, ended, onPairs, onFrames, framedOf, onNumbered, groupOf}
 use Rattle.group.proofs.FirstLaws.{judgement}

@@ -9,14 +9,14 @@ use Rattle.refusal.specs.declared.Refusal.{Refusal}
 use Rattle.strategy.specs.declared.Strategies.{Strategies}
 use Rattle.pair.specs.declared.Answer.{Answer}
 use Rattle.pair.specs.declared.Answer.the-variants as Answers
-use Rattle.mates.specs.Register.{matesOf, mateCons, pairsFrom, pairsOf}
+use Rattle.group_mates.specs.Register.{matesOf, mateCons, pairsFrom, pairsOf}
 use Rattle.fields.specs.Among.{Among}
 use Rattle.fields.proofs.AmongLaws.{among-cons, among-none}
-use Rattle.mates.specs.Promise.{Mates}
-use Rattle.mates.proofs.MateLaws.{Made, mate-mates, mates-mate, mates-among}
-use Rattle.verdicts.specs.declared.Verdict.{Verdict}
-use Rattle.verdicts.specs.declared.Verdict.the-variants as Verdicts
-use Rattle.verdicts.specs.Judged.{pairAt, atIndex, answered, verdictAt, onVerdict, judgeBy}
+use Rattle.group_mates.specs.Promise.{Mates}
+use Rattle.group_mates.proofs.MateLaws.{Made, mate-mates, mates-mate, mates-among}
+use Rattle.group_verdicts.specs.declared.Verdict.{Verdict}
+use Rattle.group_verdicts.specs.declared.Verdict.the-variants as Verdicts
+use Rattle.group_verdicts.specs.Judged.{pairAt, atIndex, answered, verdictAt, onVerdict, judgeBy}
 use Rattle.group.specs.Promise.{FirstRefused}
 
 -- ---- all pairs pass

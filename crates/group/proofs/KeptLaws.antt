@@ -13,16 +13,16 @@ use Rattle.fields.proofs.CheckLaws.{good-sound}
 use Rattle.fields.specs.Layout.{layoutOf}
 use Rattle.stats.specs.declared.CorrectionStats.{CorrectionStats}
 use Rattle.strategy.specs.declared.Strategies.{Strategies}
-use Rattle.merge.specs.Promise.{Outside}
-use Rattle.frames.specs.Part.{part}
-use Rattle.frames.specs.declared.Framing.the-variants.{Whole}
-use Rattle.frames.specs.Frame.{beginOf, startOf, endOf, recordOf, framesOf}
-use Rattle.frames.proofs.PartLaws.{length-part}
-use Rattle.frames.proofs.PlaceLaws.{begin-mono, start-end, records-apart}
-use Rattle.frames.proofs.FrameLaws.{to-framed}
-use Rattle.frames.proofs.CleanLaws.{whole-clean, begin-alike, clean-alike, clean-whole}
-use Rattle.mates.specs.Register.{pairsOf}
-use Rattle.mates.proofs.MateLaws.{among-mates, mates-among}
+use Rattle.pair_merge.specs.Promise.{Outside}
+use Rattle.group_frames.specs.Part.{part}
+use Rattle.group_frames.specs.declared.Framing.the-variants.{Whole}
+use Rattle.group_frames.specs.Frame.{beginOf, startOf, endOf, recordOf, framesOf}
+use Rattle.group_frames.proofs.PartLaws.{length-part}
+use Rattle.group_frames.proofs.PlaceLaws.{begin-mono, start-end, records-apart}
+use Rattle.group_frames.proofs.FrameLaws.{to-framed}
+use Rattle.group_frames.proofs.CleanLaws.{whole-clean, begin-alike, clean-alike, clean-whole}
+use Rattle.group_mates.specs.Register.{pairsOf}
+use Rattle.group_mates.proofs.MateLaws.{among-mates, mates-among}
 use Rattle.group.specs.Promise.{Elsewhere, Accepted}
 use Rattle.group.proofs.PromiseLaws.{Spot, in-first, in-second, in-none, locate, byte-in}
 use Rattle.group.proofs.ByteLaws.{first-outside, second-outside}

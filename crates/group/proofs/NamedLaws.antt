@@ -14,9 +14,9 @@ use Rattle.stats.specs.declared.CorrectionStats.{CorrectionStats}
 use Rattle.stats.specs.Counts.{plus}
 use Rattle.stats.proofs.CountLaws.{plus-assoc, plus-comm}
 use Rattle.strategy.specs.declared.Strategies.{Strategies}
-use Rattle.mates.specs.Promise.{one, times}
-use Rattle.verdicts.specs.Judged.{pairAt}
-use Rattle.applying.specs.Applied.{overlapCount, overlapsIn}
+use Rattle.group_mates.specs.Promise.{one, times}
+use Rattle.group_verdicts.specs.Judged.{pairAt}
+use Rattle.group_applying.specs.Applied.{overlapCount, overlapsIn}
 use Rattle.group.specs.Promise.{Paired, pairGrowths}
 
 -- ---- a pair taken out of a list

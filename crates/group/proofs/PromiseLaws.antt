@@ -20,21 +20,21 @@ use Rattle.strategy.specs.declared.Strategies.{Strategies}
 use Rattle.strategy.specs.declared.Numbered.the-variants as Numbers
 use Rattle.strategy.specs.Number.{numberedOf}
 use Rattle.pair.specs.declared.Answer.the-variants as Answers
-use Rattle.frames.specs.Part.{part}
-use Rattle.frames.specs.declared.Framing.the-variants.{Whole}
-use Rattle.frames.specs.Frame.{beginOf, startOf, endOf, framesOf}
-use Rattle.frames.proofs.CleanLaws.{whole-clean}
-use Rattle.mates.specs.Register.{pairsOf}
+use Rattle.group_frames.specs.Part.{part}
+use Rattle.group_frames.specs.declared.Framing.the-variants.{Whole}
+use Rattle.group_frames.specs.Frame.{beginOf, startOf, endOf, framesOf}
+use Rattle.group_frames.proofs.CleanLaws.{whole-clean}
+use Rattle.group_mates.specs.Register.{pairsOf}
 use Rattle.fields.specs.Among.{Among}
 use Rattle.fields.proofs.AmongLaws.{here, later, among-cons, among-none}
-use Rattle.mates.specs.Promise.{Mates, one, times}
-use Rattle.mates.proofs.OnceLaws.{pairs-once}
-use Rattle.mates.proofs.MateLaws.{among-mates, mates-among}
-use Rattle.verdicts.specs.declared.Verdict.{Verdict}
-use Rattle.verdicts.specs.declared.Verdict.the-variants as Verdicts
-use Rattle.verdicts.specs.Judged.{pairAt}
-use Rattle.applying.specs.Applied.{grown, overlapsIn}
-use Rattle.applying.proofs.WrittenLaws.{written-size, written-first, written-second, written-out}
+use Rattle.group_mates.specs.Promise.{Mates, one, times}
+use Rattle.group_mates.proofs.OnceLaws.{pairs-once}
+use Rattle.group_mates.proofs.MateLaws.{among-mates, mates-among}
+use Rattle.group_verdicts.specs.declared.Verdict.{Verdict}
+use Rattle.group_verdicts.specs.declared.Verdict.the-variants as Verdicts
+use Rattle.group_verdicts.specs.Judged.{pairAt}
+use Rattle.group_applying.specs.Applied.{grown, overlapsIn}
+use Rattle.group_applying.proofs.WrittenLaws.{written-size, written-first, written-second, written-out}
 use Rattle.group.specs.declared.GroupAnswer.the-variants.{Done, Refused}
 use Rattle.group.specs.Group.{groupNumbers, Ended, ended, onPairs, onFrames, groupOf}
 use Rattle.group.specs.Promise.{Paired, Elsewhere, pairGrowths, Accepted, FirstRefused, FirstFailed, by-strategies, by-counts, by-frames, by-pair}

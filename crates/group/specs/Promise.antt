@@ -15,13 +15,13 @@ use Rattle.strategy.specs.declared.Strategies.{Strategies}
 use Rattle.strategy.specs.declared.Numbered.the-variants as Numbers
 use Rattle.strategy.specs.Number.{numberedOf}
 use Rattle.pair.specs.declared.Answer.the-variants as Answers
-use Rattle.frames.specs.Part.{part}
-use Rattle.frames.specs.declared.Framing.the-variants.{Whole, Broken}
-use Rattle.frames.specs.Frame.{startOf, endOf, framesOf}
+use Rattle.group_frames.specs.Part.{part}
+use Rattle.group_frames.specs.declared.Framing.the-variants.{Whole, Broken}
+use Rattle.group_frames.specs.Frame.{startOf, endOf, framesOf}
 use Rattle.fields.specs.Among.{Among}
-use Rattle.mates.specs.Promise.{Mates, Once}
-use Rattle.verdicts.specs.Judged.{pairAt, atIndex}
-use Rattle.applying.specs.Applied.{overlapsIn}
+use Rattle.group_mates.specs.Promise.{Mates, Once}
+use Rattle.group_verdicts.specs.Judged.{pairAt, atIndex}
+use Rattle.group_applying.specs.Applied.{overlapsIn}
 
 -- the list has each pair of mates, and no other; each record stands in at most one
 pub record Paired (s : List ℕ) (n : ℕ) (l : List (ℕ × ℕ)) : Type 0 where

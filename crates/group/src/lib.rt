@@ -1,15 +1,15 @@
 // The group call: framed records paired by name, and each pair corrected where it stands.
-use frames::Framing;
+use group_frames::Framing;
+use group_verdicts::Verdict;
 use refusal::Refusal;
 use stats::CorrectionStats;
 use strategy::Numbered;
 use strategy::Strategies;
-use verdicts::Verdict;
 ghost use mathlib.Core.Path.{_≡_};
 ghost use mathlib.Core.Bool.{false};
 ghost use Rattle.stats.specs.Counts.{full};
-ghost use Rattle.frames.specs.Frame.{framesOf};
-ghost use Rattle.frames.specs.Table.{Placed};
+ghost use Rattle.group_frames.specs.Frame.{framesOf};
+ghost use Rattle.group_frames.specs.Table.{Placed};
 ghost use Rattle.group.specs.Group.{ended, framedOf, groupOf};
 
 // What a group call answers: how many records, pairs and overlapping pairs there are, or why it is
@@ -51,12 +51,12 @@ fn group_pairs(
     ensures { λ r. ⌜ ended (r .answer) (now (buf .exit)) (r .stats) ≡ framedOf w (now (buf .entry)) stats ⌝ }
 {
     let mut mate = [0usize; 256];
-    mates::find(buf, begins, n, &mut mate);
-    let v = verdicts::judge_all(buf, begins, n, &mate);
+    group_mates::find(buf, begins, n, &mut mate);
+    let v = group_verdicts::judge_all(buf, begins, n, &mate);
     match v {
         Verdict::Refused(r) => refused(r, stats),
         Verdict::Passed => {
-            let applied = applying::apply_all(buf, begins, n, &mate, w, stats);
+            let applied = group_applying::apply_all(buf, begins, n, &mate, w, stats);
             let after = applied.stats;
             Grouped {
                 answer: GroupAnswer::Done {
@@ -76,7 +76,7 @@ fn group_framed(buf: &mut [u8], w: Strategies, stats: CorrectionStats) -> Groupe
     ensures { λ r. ⌜ ended (r .answer) (now (buf .exit)) (r .stats) ≡ framedOf w (now (buf .entry)) stats ⌝ }
 {
     let mut begins = [0usize; 257];
-    let f = frames::cut(buf, &mut begins);
+    let f = group_frames::cut(buf, &mut begins);
     match f {
         Framing::Broken(r) => refused(r, stats),
         Framing::Whole(n) => group_pairs(buf, &begins, n, w, stats),

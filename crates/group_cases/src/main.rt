@@ -13,9 +13,9 @@ fn room() -> [u8; 70000]
 
 // Whether m bytes must be written, and they are the line and then the group.
 fn as_expected(line: &[u8], group: &[u8], expected: &[u8], m: usize) -> bool {
-    let want = text::part(expected, 0, m);
-    let front = text::part(want, 0, line.len());
-    let back = text::part(want, line.len(), m);
+    let want = line_text::part(expected, 0, m);
+    let front = line_text::part(want, 0, line.len());
+    let back = line_text::part(want, line.len(), m);
     check::same(line, front) && check::same(group, back)
 }
 
@@ -44,11 +44,11 @@ fn run_case(head: &mut [u8], input: &mut [u8], expected: &mut [u8], out: &mut [u
     }
     io::read_full(0, &mut input[0..n]);
     io::read_full(0, &mut expected[0..m]);
-    let written = overlap_line::overlap(input, n, out);
-    io::write_all(1, text::part(head, 0, 32));
+    let written = line_overlap::overlap(input, n, out);
+    io::write_all(1, line_text::part(head, 0, 32));
     tell(as_expected(
-        overlap_line::line_of(out, written.line),
-        text::part(input, 2, written.group),
+        line_overlap::line_of(out, written.line),
+        line_text::part(input, 2, written.group),
         expected,
         m,
     ));

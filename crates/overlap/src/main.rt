@@ -24,9 +24,9 @@ fn main() {
         return;
     };
     let mut out = [0u8; 256];
-    let written = overlap_line::overlap(&mut input, n, &mut out);
-    let line = overlap_line::line_of(&out, written.line);
-    let group = text::part(&input, 2, written.group);
+    let written = line_overlap::overlap(&mut input, n, &mut out);
+    let line = line_overlap::line_of(&out, written.line);
+    let group = line_text::part(&input, 2, written.group);
     if !console::write_both(line, group) {
         os::fail(b"overlap: standard output can't be written");
     }

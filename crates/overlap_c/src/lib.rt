@@ -1,6 +1,6 @@
 // The exported calls, for a host program in C or Rust to link. include/overlap.h declares them.
 use filed::FiledAnswer;
-use filing::Filing;
+use filed_raw::Filing;
 use refusal::Refusal;
 ghost use mathlib.Core.Path.{_≡_};
 ghost use Rattle.pair_code.specs.Call.{returned, callOf};
@@ -66,7 +66,7 @@ pub extern "C" fn overlap_trailer_call(
 ) -> u32
     ensures { λ r. ⌜ trailerReturned r (now (trailer .exit)) ≡ trailerCallOf (now (frames .entry)) agreement disagreement (now (trailer .entry)) ⌝ }
 {
-    let filing = filing::file(frames, agreement, disagreement, trailer);
+    let filing = filed_raw::file(frames, agreement, disagreement, trailer);
     match filing {
         Filing::Made(_) => 0,
         Filing::Refused(r) => r.code(),

@@ -17,9 +17,9 @@ fn main() {
     };
     let mut filed = [0u8; 65536];
     let mut out = [0u8; 256];
-    let written = filed_line::overlap_filed(&input, n, &mut filed, &mut out);
-    let line = filed_line::line_of(&out, written.line);
-    let group = filed_line::group_of(&filed, written.group);
+    let written = line_filed::overlap_filed(&input, n, &mut filed, &mut out);
+    let line = line_filed::line_of(&out, written.line);
+    let group = line_filed::group_of(&filed, written.group);
     if !console::write_both(line, group) {
         os::fail(b"overlap_filed: standard output can't be written");
     }

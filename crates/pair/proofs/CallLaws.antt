@@ -15,8 +15,8 @@ use Rattle.stats.specs.Counts.{full}
 use Rattle.strategy.specs.declared.Strategies.{Strategies}
 use Rattle.positions.specs.Step.{State}
 use Rattle.pair.specs.declared.Answer.the-variants as Answers
-use Rattle.judgement.specs.declared.Judged.{Judged}
-use Rattle.judgement.specs.Judgement.{judgedOf}
+use Rattle.pair_judgement.specs.declared.Judged.{Judged}
+use Rattle.pair_judgement.specs.Judgement.{judgedOf}
 use Rattle.pair.specs.Pair.{outcome, answerOf, onJudged, refusedAnswer, recordsOf, pairOf}
 
 -- ---- the answer by the number of shared positions

@@ -29,18 +29,18 @@ use Rattle.cigar.proofs.SitsLaws.{inRead}
 use Rattle.fields.specs.Among.{Among}
 use Rattle.positions.specs.Step.{State, job}
 use Rattle.positions.proofs.PointLaws.{Both}
-use Rattle.merge.specs.Shared.{shared, merged}
-use Rattle.merge.specs.Promise.{Share, Names, Bytes}
-use Rattle.merge.proofs.PromiseLaws.{shared-names, promised}
-use Rattle.merge.proofs.UniqueLaws.{one-outcome}
-use Rattle.judgement.specs.declared.Judged.{Judged}
-use Rattle.judgement.specs.declared.Judged.the-variants as Judge
+use Rattle.pair_merge.specs.Shared.{shared, merged}
+use Rattle.pair_merge.specs.Promise.{Share, Names, Bytes}
+use Rattle.pair_merge.proofs.PromiseLaws.{shared-names, promised}
+use Rattle.pair_merge.proofs.UniqueLaws.{one-outcome}
+use Rattle.pair_judgement.specs.declared.Judged.{Judged}
+use Rattle.pair_judgement.specs.declared.Judged.the-variants as Judge
 use Rattle.pair.specs.declared.Answer.{Answer}
 use Rattle.pair.specs.declared.Answer.the-variants as Answers
-use Rattle.judgement.specs.Judgement.{onSpan, spanIn, mappedOf, judgedOf}
+use Rattle.pair_judgement.specs.Judgement.{onSpan, spanIn, mappedOf, judgedOf}
 use Rattle.pair.specs.Pair.{Outcome, outcome, answerOf, onJudged, onGood, recordsOf, pairOf}
 use Rattle.pair.specs.Promise.{NotRefused, Aligned, fromOne, Overlaps, Kept}
-use Rattle.judgement.proofs.TreatLaws.{spanned, both-known, nothing-shared}
+use Rattle.pair_judgement.proofs.TreatLaws.{spanned, both-known, nothing-shared}
 
 -- ---- a refusal, or "no overlap", leaves all as it was
 answer-of : (a b : Outcome) → a ≡ b → a .answer ≡ b .answer

@@ -11,10 +11,10 @@ use Rattle.fields.specs.Check.{checkOf}
 use Rattle.stats.specs.Counts.{full}
 use Rattle.strategy.specs.declared.Strategies.{Strategies}
 use Rattle.positions.specs.Step.{State, job}
-use Rattle.merge.specs.Shared.{shared, merged}
-use Rattle.judgement.specs.declared.Judged.{Judged}
-use Rattle.judgement.specs.declared.Judged.the-variants as Judge
-use Rattle.judgement.specs.Judgement.{judgedOf}
+use Rattle.pair_merge.specs.Shared.{shared, merged}
+use Rattle.pair_judgement.specs.declared.Judged.{Judged}
+use Rattle.pair_judgement.specs.declared.Judged.the-variants as Judge
+use Rattle.pair_judgement.specs.Judgement.{judgedOf}
 use Rattle.pair.specs.declared.Answer.{Answer}
 use Rattle.pair.specs.declared.Answer.the-variants as Answers
 

@@ -12,7 +12,7 @@ use Rattle.fields.specs.Flag.{hasBit, unmapped}
 use Rattle.fields.specs.Layout.{header, layoutOf}
 use Rattle.strategy.specs.declared.Strategies.{Strategies}
 use Rattle.positions.specs.Step.{State, job}
-use Rattle.merge.specs.Promise.{Share, Corrected}
+use Rattle.pair_merge.specs.Promise.{Share, Corrected}
 use Rattle.pair.specs.declared.Answer.the-variants as Answers
 use Rattle.pair.specs.Pair.{Outcome}
 

@@ -1,7 +1,7 @@
 // The pair call: two records judged wholly, and only then corrected where they stand.
 use cigar::Extent;
 use fields::Checked;
-use judgement::Judged;
+use pair_judgement::Judged;
 use positions::Job;
 use refusal::Refusal;
 use stats::CorrectionStats;
@@ -9,7 +9,7 @@ use strategy::Strategies;
 ghost use mathlib.Core.Path.{_≡_};
 ghost use Rattle.stats.specs.Room.{Room};
 ghost use Rattle.positions.specs.Step.{state};
-ghost use Rattle.judgement.specs.Ready.{Ready};
+ghost use Rattle.pair_judgement.specs.Ready.{Ready};
 ghost use Rattle.pair.specs.Pair.{onJudged, refusedAnswer, outcome, pairOf, answerCode};
 
 // What a pair call answers. A refusal and "no overlap" change nothing.
@@ -60,7 +60,7 @@ fn call_both(
     requires { ⌜ Ready (w .first) (w .second) p q (now first) (now second) × Room stats 131072 ⌝ }
     ensures { λ r. ⌜ outcome (r .answer) (state (now (first .exit)) (now (second .exit)) (r .stats)) ≡ onJudged (w .strategies) (w .first) (w .second) (state (now (first .entry)) (now (second .entry)) stats) (Judged.Both p q) ⌝ }
 {
-    let met = judgement::treat(w, first, second, p, q, stats);
+    let met = pair_judgement::treat(w, first, second, p, q, stats);
     let after = met.stats;
     if met.shared == 0 {
         return Called {
@@ -99,7 +99,7 @@ pub fn call(first: &mut [u8], second: &mut [u8], w: Strategies, stats: Correctio
             stats,
         };
     };
-    let judged = judgement::judge(first, second, y, z, 1, 2);
+    let judged = pair_judgement::judge(first, second, y, z, 1, 2);
     match judged {
         Judged::Refused(r) => Called {
             answer: Answer::Refused(r),

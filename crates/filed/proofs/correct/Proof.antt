@@ -6,7 +6,7 @@ use denote.Ref.{now}
 use borrow.Author.Needs.{needs}
 use Rattle.filed.proofs.correct.Statement.{statement}
 use Rattle.filed.proofs.correct.Tie as tie
-use Rattle.ending.proofs.cut.Reads as cut-reads
+use Rattle.filed_ending.proofs.cut.Reads as cut-reads
 use Rattle.filed.proofs.correct_ended.Reads as correct-ended-reads
 use Rattle.filed.proofs.refused.Reads as refused-reads
 use Rattle.stats.proofs.CorrectionStats.full.Reads as full-reads

@@ -11,8 +11,8 @@ use Rattle.filed.proofs.correct_ended.Statement.{statement}
 use Rattle.filed.proofs.correct_ended.Tie as tie
 use Rattle.filed.proofs.correct_raw.Reads as correct-raw-reads
 use Rattle.filed.proofs.refused.Reads as refused-reads
-use Rattle.trailer.proofs.Trailer.wrong.Reads as wrong-reads
-use Rattle.trailer.proofs.read.Reads as read-reads
+use Rattle.filed_trailer.proofs.Trailer.wrong.Reads as wrong-reads
+use Rattle.filed_trailer.proofs.read.Reads as read-reads
 
 mul-p : tie.Need-mul-p
 mul-p c = search needs

@@ -11,7 +11,7 @@ use Rattle.filed.proofs.refused.Reads as refused-reads
 use Rattle.filed.proofs.write_filed.Reads as write-filed-reads
 use Rattle.filed.proofs.written.Reads as written-reads
 use Rattle.strategy.proofs.by_number.Reads as by-number-reads
-use Rattle.verdicts.proofs.judge_all.Reads as judge-all-reads
+use Rattle.group_verdicts.proofs.judge_all.Reads as judge-all-reads
 
 cast-by-number : tie.Need-cast-by-number
 cast-by-number c = search needs

@@ -2,14 +2,14 @@
 use Prim.Native.Nat.{ℕ, _+_}
 use mathlib.Core.Path.{ap, _∙_}
 use mathlib.Core.List.{List}
-use Rattle.frames.specs.Part.{splice}
-use Rattle.trailer.specs.Trailer.{stamped}
+use Rattle.group_frames.specs.Part.{splice}
+use Rattle.filed_trailer.specs.Trailer.{stamped}
 use denote.Ref.{now}
 use borrow.Author.Needs.{needs}
 use Rattle.filed.proofs.put_trailer.Statement.{statement}
 use Rattle.filed.proofs.put_trailer.Tie as tie
-use Rattle.applying.proofs.copy.Reads as copy-reads
-use Rattle.trailer.proofs.stamp.Reads as stamp-reads
+use Rattle.group_applying.proofs.copy.Reads as copy-reads
+use Rattle.filed_trailer.proofs.stamp.Reads as stamp-reads
 
 slice-aggregate-copy : tie.Need-slice-aggregate-copy
 slice-aggregate-copy c = search needs

@@ -3,7 +3,7 @@ use borrow.Author.Needs.{needs}
 use Prim.Native.Nat.{ℕ, _-_, _≤_}
 use mathlib.Core.Path.{_≡_}
 use native.Mathlib.Omega.{arith}
-use Rattle.writing.specs.Short.{Short}
+use Rattle.filed_writing.specs.Short.{Short}
 use Rattle.filed.proofs.ShortLaws.{short-start, short-next, short-end}
 use denote.Ref.{now}
 use Rattle.filed.proofs.small.Statement.{statement}

@@ -5,7 +5,7 @@ use denote.Ref.{now}
 use borrow.Author.Needs.{needs}
 use Rattle.filed.proofs.write_large.Statement.{statement}
 use Rattle.filed.proofs.write_large.Tie as tie
-use Rattle.writing.proofs.write_all.Reads as write-all-reads
+use Rattle.filed_writing.proofs.write_all.Reads as write-all-reads
 
 slice-aggregate-write-all : tie.Need-slice-aggregate-write-all
 slice-aggregate-write-all c = search needs

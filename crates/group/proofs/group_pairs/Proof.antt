@@ -1,7 +1,7 @@
 -- `group::group_pairs` meets its contract: what its callees ensure, put together by the laws of the stages. Assumes nothing.
 use mathlib.Core.Path.{refl, sym}
 use Rattle.stats.proofs.CountLaws.{full-room}
-use Rattle.frames.specs.declared.Framing.the-variants.{Whole}
+use Rattle.group_frames.specs.declared.Framing.the-variants.{Whole}
 use Rattle.group.proofs.GroupLaws.{refused-pair, done}
 use denote.Ref.{now}
 use borrow.Author.Needs.{needs}

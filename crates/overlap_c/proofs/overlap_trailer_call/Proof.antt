@@ -4,7 +4,7 @@ use denote.Ref.{now}
 use borrow.Author.Needs.{needs}
 use Rattle.overlap_c.proofs.overlap_trailer_call.Statement.{statement}
 use Rattle.overlap_c.proofs.overlap_trailer_call.Tie as tie
-use Rattle.filing.proofs.file.Reads as file-reads
+use Rattle.filed_raw.proofs.file.Reads as file-reads
 use Rattle.refusal.proofs.Refusal.code.Reads as code-reads
 
 file-requires : tie.Need-file-requires

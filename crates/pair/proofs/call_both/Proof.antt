@@ -1,6 +1,6 @@
 -- `pair::call_both` meets its contract. Assumes nothing.
 use mathlib.Core.Path.{ap₂}
-use Rattle.merge.specs.Shared.{shared}
+use Rattle.pair_merge.specs.Shared.{shared}
 use Rattle.pair.specs.Pair.{outcome}
 use Rattle.pair.proofs.CallLaws.{none-met, some-met}
 use denote.Ref.{now}

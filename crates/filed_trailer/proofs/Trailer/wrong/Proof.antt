@@ -1,0 +1,34 @@
+-- `filed_trailer::Trailer::wrong` meets its contract. Assumes nothing.
+use borrow.Author.Tests.{lt-ltb, le-ltb, eq-eqb, ne-eqb}
+use borrow.Author.Needs.{needs}
+use Rattle.filed_trailer.proofs.Trailer.wrong.Statement.{statement}
+use Rattle.filed_trailer.proofs.Trailer.wrong.Tie as tie
+
+returns : tie.Need-returns
+returns c = rw (lt-ltb _ _ (c .if1 .taken))
+
+returns-2 : tie.Need-returns-2
+returns-2 c = rw (le-ltb _ _ (c .before .before .if1 .left), lt-ltb _ _ (c .if2 .taken))
+
+cast-if3 : tie.Need-cast-if3
+cast-if3 c = search needs
+
+returns-3 : tie.Need-returns-3
+returns-3 c = rw (le-ltb _ _ (c .before .before .before .before .if1 .left), le-ltb _ _ (c .before .before .if2 .left), ne-eqb _ _ (c .if3 .taken))
+
+returns-4 : tie.Need-returns-4
+returns-4 c = rw (le-ltb _ _ (c .before .before .before .before .before .if1 .left), le-ltb _ _ (c .before .before .before .if2 .left), eq-eqb _ _ (c .before .if3 .left), ne-eqb _ _ (c .if4 .taken))
+
+returns-5 : tie.Need-returns-5
+returns-5 c = rw (le-ltb _ _ (c .before .before .before .before .before .before .before .if1 .left), le-ltb _ _ (c .before .before .before .before .before .if2 .left), eq-eqb _ _ (c .before .before .before .if3 .left), eq-eqb _ _ (c .before .before .if4 .left), ne-eqb _ _ (c .if5 .taken))
+
+grown-requires : tie.Need-grown-requires
+grown-requires c κs = search needs
+
+returns-6 : tie.Need-returns-6
+returns-6 c = rw (le-ltb _ _ (c .before .before .before .before .before .before .before .before .before .if1 .left), le-ltb _ _ (c .before .before .before .before .before .before .before .if2 .left), eq-eqb _ _ (c .before .before .before .before .before .if3 .left), eq-eqb _ _ (c .before .before .before .before .if4 .left), eq-eqb _ _ (c .before .before .if5 .left)) (c .grown .ensures)
+
+pub wrong-spec : {M : Type 1} → statement M
+wrong-spec =
+    tie.close
+    (tie.spec returns returns-2 cast-if3 returns-3 returns-4 returns-5 grown-requires returns-6)

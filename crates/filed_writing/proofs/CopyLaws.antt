@@ -1,0 +1,46 @@
+-- A pair call on the fronts of two rooms that hold copies of the records.
+use Prim.Native.Nat.{ℕ, _-_, _≤_}
+use mathlib.Core.Path.{_≡_, sym, _∙_, ap}
+use mathlib.Core.List.{List}
+use native.Mathlib.Omega.{arith}
+use borrow.Rule.Slice.PartMut.{same-len-mid}
+use lib.ListN.{length, take}
+use Rattle.strategy.specs.declared.Strategies.{Strategies}
+use Rattle.group_frames.specs.Part.{part, splice}
+use Rattle.group_frames.proofs.PartLaws.{length-part, part-put}
+use Rattle.group_applying.specs.declared.Applied.{Applied}
+use Rattle.filed_writing.specs.Written.{Treats, Copied}
+
+-- ---- a copy c of a at the front of a room
+module _ (room a c : List ℕ) (fits : length a ≤ length room) (same : c ≡ a) where
+  size : length c ≡ length a - 0
+  size = ap length same ∙ omega arith
+
+  pub front-is : part (splice room 0 (length a) c) 0 (length a) ≡ a
+  front-is = part-put room c 0 (length a) (omega arith) fits size ∙ same
+
+  front-size : length (splice room 0 (length a) c) ≡ length room
+  front-size = same-len-mid 0 (length a - 0) room c (size ∙ sym (length-part room 0 (length a) (omega arith) fits))
+
+  -- what takes its place
+  pub front-put : (f : List ℕ) → length f ≡ length (part (splice room 0 (length a) c) 0 (length a)) → take (length a) (splice (splice room 0 (length a) c) 0 (length a) f) ≡ f
+  front-put f l =
+      let z : length a - 0 ≡ length a = omega arith in
+      let i : length a ≤ length (splice room 0 (length a) c) = omega (arith, front-size) in
+      ap (λ (k : ℕ). take k (splice (splice room 0 (length a) c) 0 (length a) f)) (sym z)
+      ∙ part-put (splice room 0 (length a) c) f 0 (length a) (omega arith) i (l ∙ length-part (splice room 0 (length a) c) 0 (length a) (omega arith) i)
+
+-- ---- both rooms after the call
+pub copied : (w : Strategies) (a b left right c d : List ℕ) → length a ≤ length left → length b ≤ length right → c ≡ a → d ≡ b
+    → (r : Applied) (f v : List ℕ)
+    → Treats w (part (splice left 0 (length a) c) 0 (length a)) (part (splice right 0 (length b) d) 0 (length b)) f v r
+    → length f ≡ length (part (splice left 0 (length a) c) 0 (length a))
+    → length v ≡ length (part (splice right 0 (length b) d) 0 (length b))
+    → Copied w a b (splice (splice left 0 (length a) c) 0 (length a) f) (splice (splice right 0 (length b) d) 0 (length b) v) r
+copied w a b left right c d ha hb ec ed r f v q lf lv =
+    let t : Treats w a b f v r = rw (front-is left a c ha ec, front-is right b d hb ed) at q in
+    record {
+      first = front-put left a c ha ec f lf ∙ t .first;
+      second = front-put right b d hb ed v lv ∙ t .second;
+      adds = t .adds;
+    }

@@ -1,0 +1,42 @@
+-- Two parts of a group, and what the pair call makes of them.
+use Prim.Native.Nat.{ℕ, _+_, _-_, _<_, _≤_}
+use mathlib.Core.Path.{_≡_}
+use mathlib.Core.List.{List}
+use lib.ListN.{length, getD}
+use Rattle.stats.specs.Counts.{zeroed}
+use Rattle.strategy.specs.declared.Strategies.{Strategies}
+use Rattle.positions.specs.Step.{state}
+use Rattle.pair.specs.declared.Called.{Called}
+use Rattle.pair.specs.Pair.{Outcome, pairOf}
+use Rattle.group_frames.specs.Part.{part, splice}
+
+-- two parts of s, from a to e and from b to h, of which m bytes take the second
+pub record Within (s : List ℕ) (m a e b h : ℕ) : Type 0 where
+  pub order₁ : a ≤ e
+  pub order₂ : b ≤ h
+  pub inside₁ : e ≤ length s
+  pub inside₂ : h ≤ length s
+  pub room : h - b ≤ m
+
+abbrev pub callIn : Strategies → List ℕ → ℕ → ℕ → ℕ → ℕ → Outcome
+callIn w s a e b h = pairOf w (state (part s a e) (part s b h) zeroed)
+
+-- u has both parts as the pair call leaves them, and r is its answer and its counts
+pub record BothPut (w : Strategies) (s : List ℕ) (a e b h : ℕ) (u : List ℕ) (r : Called) : Type 0 where
+  pub bytes : u ≡ splice (splice s a e (callIn w s a e b h .after .first)) b h (callIn w s a e b h .after .second)
+  pub answer : r .answer ≡ callIn w s a e b h .answer
+  pub stats : r .stats ≡ callIn w s a e b h .after .stats
+
+-- where record k lies, by the table
+abbrev pub startIn : List ℕ → ℕ → ℕ
+startIn begins k = getD begins k 0 + 4
+
+abbrev pub endIn : List ℕ → ℕ → ℕ
+endIn begins k = getD begins (k + 1) 0
+
+-- records i and j are in the table, and lie in s
+pub record Given (s : List ℕ) (m : ℕ) (begins : List ℕ) (i j : ℕ) : Type 0 where
+  pub few₁ : i < 256
+  pub few₂ : j < 256
+  pub wide : 257 ≤ length begins
+  pub within : Within s m (startIn begins i) (endIn begins i) (startIn begins j) (endIn begins j)

@@ -1,0 +1,127 @@
+// The pairs of a group corrected where they stand, each by the pair call.
+use pair::Answer;
+use pair::Called;
+use stats::CorrectionStats;
+use strategy::Strategies;
+ghost use mathlib.Core.Path.{_≡_};
+ghost use Prim.Native.Nat.{_*_, _≤_};
+ghost use lib.ListN.{length};
+ghost use Rattle.stats.specs.Room.{Room};
+ghost use Rattle.group_frames.specs.Table.{Placed};
+ghost use Rattle.group_mates.specs.Register.{pairsOf};
+ghost use Rattle.group_mates.specs.Table.{Mated};
+ghost use Rattle.group_applying.specs.Applied.{overlapCount, AppliedTo};
+ghost use Rattle.group_applying.specs.Within.{startIn, endIn, Given, Within, BothPut};
+
+// What treating the pairs gives: how many there are, how many of these overlap, and the counts after.
+pub struct Applied {
+    pub pairs: usize,
+    pub overlapping: usize,
+    pub stats: CorrectionStats,
+}
+
+// How much a pair with this answer adds to the number of overlapping ones.
+fn overlap_of(a: Answer) -> usize
+    ensures { λ r. ⌜ (r ≡ overlapCount a) × (r ≤ 1) ⌝ }
+{
+    match a {
+        Answer::NoOverlap => 0,
+        Answer::Overlap => 1,
+        Answer::Refused(_) => 0,
+    }
+}
+
+// Copies bytes to a part of the same length.
+pub fn copy(to: &mut [u8], from: &[u8])
+    requires { ⌜ length (now to) ≡ length (now from) ⌝ }
+    ensures { λ _. ⌜ now (to .exit) ≡ now (from .entry) ⌝ }
+{
+    let mut i = 0;
+    while i < from.len() {
+        to[i] = from[i];
+        i += 1;
+    }
+}
+
+// The pair call on two parts of a list, its counts begun at 0. The second is copied out for it, and
+// back.
+fn apply_parts(
+    buf: &mut [u8],
+    room: &mut [u8],
+    start: usize,
+    end: usize,
+    from: usize,
+    to: usize,
+    w: Strategies,
+) -> Called
+    requires { ⌜ Within (now buf) (length (now room)) start end from to ⌝ }
+    ensures { λ r. ⌜ BothPut w (now (buf .entry)) start end from to (now (buf .exit)) r ⌝ }
+{
+    let n = to - from;
+    copy(&mut room[0..n], &buf[from..to]);
+    let called = pair::call(
+        &mut buf[start..end],
+        &mut room[0..n],
+        w,
+        CorrectionStats::new(),
+    );
+    copy(&mut buf[from..to], &room[0..n]);
+    called
+}
+
+// The pair call on records i and j of a group.
+fn apply_pair(
+    buf: &mut [u8],
+    room: &mut [u8],
+    begins: &[usize],
+    i: usize,
+    j: usize,
+    w: Strategies,
+) -> Called
+    requires { ⌜ Given (now buf) (length (now room)) (now begins) i j ⌝ }
+    ensures { λ r. ⌜ BothPut w (now (buf .entry)) (startIn (now (begins .entry)) i) (endIn (now (begins .entry)) i) (startIn (now (begins .entry)) j) (endIn (now (begins .entry)) j) (now (buf .exit)) r ⌝ }
+{
+    let start = begins[i] + 4;
+    let end = begins[i + 1];
+    let mate_start = begins[j] + 4;
+    let mate_end = begins[j + 1];
+    apply_parts(buf, room, start, end, mate_start, mate_end, w)
+}
+
+// Every pair of a group corrected, in order of the first's index. A room takes one record at a time.
+pub fn apply_all(
+    buf: &mut [u8],
+    begins: &[usize],
+    n: usize,
+    mate: &[usize],
+    w: Strategies,
+    stats: CorrectionStats,
+) -> Applied
+    requires { ⌜ Placed (now buf) (now begins) n × Mated (now buf) (now mate) n × Room stats (128 * 131072) ⌝ }
+    ensures { λ r. ⌜ AppliedTo w (now (buf .entry)) (pairsOf (now (buf .entry)) n) stats (now (buf .exit)) r ⌝ }
+{
+    let mut room = [0u8; 65536];
+    let mut pairs: usize = 0;
+    let mut overlapping: usize = 0;
+    let mut sum = stats;
+    let mut i: usize = 0;
+    while i < n {
+        let m = mate[i];
+        if m == 0 {
+            i += 1;
+        } else {
+            let called = apply_pair(buf, &mut room, begins, i, m - 1, w);
+            let answer = called.answer;
+            let growth = called.stats;
+            pairs += 1;
+            overlapping += overlap_of(answer);
+            sum = sum.plus(growth);
+            i += 1;
+        }
+    }
+    Applied {
+        pairs,
+        overlapping,
+        stats: sum,
+    }
+}

@@ -1,0 +1,56 @@
+-- `group_mates::mate_of` meets its contract. Assumes nothing.
+use mathlib.Core.Path.{sym, _∙_}
+use Prim.Native.Nat.{_-_}
+use Rattle.group_frames.specs.Frame.{recordOf}
+use Rattle.group_mates.specs.Register.{placeAt, nameAt}
+use Rattle.group_mates.proofs.KeyLaws.{key-place, mate-none, mate-superseded, mate-held}
+use denote.Ref.{now}
+use borrow.Author.Needs.{needs}
+use Rattle.group_mates.proofs.mate_of.Statement.{statement}
+use Rattle.group_mates.proofs.mate_of.Tie as tie
+
+mul-if1 : tie.Need-mul-if1
+mul-if1 c = search needs
+
+shared-slice-read-if1 : tie.Need-shared-slice-read-if1
+shared-slice-read-if1 c = search needs
+
+returns : tie.Need-returns
+returns c =
+    let entry = c .before .before .before .before .before .before .before in
+    let args = entry .args in
+    mate-none (placeAt (now (args .s))) (nameAt (now (args .s))) (args .n) (args .i) (λ z. c .if1 .taken ((key-place (recordOf (now (args .s)) (args .i)) _ (entry .pre .1 .keys (args .i) (entry .pre .3))) ∙ z))
+
+holder-of-requires : tie.Need-holder-of-requires
+holder-of-requires c κs = search needs
+
+add-if2 : tie.Need-add-if2
+add-if2 c = search needs
+
+returns-2 : tie.Need-returns-2
+returns-2 c =
+    let entry = c .before .before .before .before .before .before .before .before .before in
+    let args = entry .args in
+    mate-superseded (placeAt (now (args .s))) (nameAt (now (args .s))) (args .n) (args .i) (c .before .holder-of .result) (sym (key-place (recordOf (now (args .s)) (args .i)) _ (entry .pre .1 .keys (args .i) (entry .pre .3))) ∙ c .before .before .if1 .left) (c .before .holder-of .ensures .0) (c .if2 .taken)
+
+holder-of-requires-2 : tie.Need-holder-of-requires-2
+holder-of-requires-2 c κs = search needs
+
+returns-3 : tie.Need-returns-3
+returns-3 c =
+    let entry = c .before .before .before .before .before .before .before .before .before .before in
+    let args = entry .args in
+    mate-held (placeAt (now (args .s))) (nameAt (now (args .s))) (args .n) (args .i) (c .before .before .holder-of .result) (c .holder-of2 .result) (sym (key-place (recordOf (now (args .s)) (args .i)) _ (entry .pre .1 .keys (args .i) (entry .pre .3))) ∙ c .before .before .before .if1 .left) (c .before .before .holder-of .ensures .0) (c .before .if2 .left) (c .holder-of2 .ensures .0)
+
+pub mate-of-spec : {M : Type 1} → statement M
+mate-of-spec =
+    tie.close
+    (tie.spec
+    mul-if1
+    shared-slice-read-if1
+    returns
+    holder-of-requires
+    add-if2
+    returns-2
+    holder-of-requires-2
+    returns-3)

@@ -1,0 +1,53 @@
+-- `group_mates::place_by` meets its contract. Assumes nothing.
+use mathlib.Core.Path.{sym, _∙_}
+use Rattle.group_mates.specs.Register.{placeBy}
+use native.Mathlib.Omega.{arith}
+use borrow.Author.Needs.{needs}
+use Rattle.group_mates.proofs.place_by.Statement.{statement}
+use Rattle.group_mates.proofs.place_by.Tie as tie
+
+secondary-requires : tie.Need-secondary-requires
+secondary-requires c κs = search needs
+
+returns : tie.Need-returns
+unfolding placeBy
+returns c = (simp (sym (c .before .secondary .ensures) ∙ c .if1 .taken), omega arith)
+
+supplementary-requires : tie.Need-supplementary-requires
+supplementary-requires c κs = search needs
+
+returns-2 : tie.Need-returns-2
+unfolding placeBy
+returns-2 c = (simp (sym (c .before .before .before .secondary .ensures) ∙ c .before .before .if1 .left, sym (c .before .supplementary .ensures) ∙ c .if2 .taken), omega arith)
+
+first-segment-requires : tie.Need-first-segment-requires
+first-segment-requires c κs = search needs
+
+returns-3 : tie.Need-returns-3
+unfolding placeBy
+returns-3 c = (simp (sym (c .before .before .before .before .before .secondary .ensures) ∙ c .before .before .before .before .if1 .left, sym (c .before .before .before .supplementary .ensures) ∙ c .before .before .if2 .left, sym (c .before .first-segment .ensures) ∙ c .if3 .taken), omega arith)
+
+last-segment-requires : tie.Need-last-segment-requires
+last-segment-requires c κs = search needs
+
+returns-4 : tie.Need-returns-4
+unfolding placeBy
+returns-4 c = (simp (sym (c .before .before .before .before .before .before .before .secondary .ensures) ∙ c .before .before .before .before .before .before .if1 .left, sym (c .before .before .before .before .before .supplementary .ensures) ∙ c .before .before .before .before .if2 .left, sym (c .before .before .before .first-segment .ensures) ∙ c .before .before .if3 .left, sym (c .before .last-segment .ensures) ∙ c .if4 .taken), omega arith)
+
+returns-5 : tie.Need-returns-5
+unfolding placeBy
+returns-5 c = (simp (sym (c .before .before .before .before .before .before .before .secondary .ensures) ∙ c .before .before .before .before .before .before .if1 .left, sym (c .before .before .before .before .before .supplementary .ensures) ∙ c .before .before .before .before .if2 .left, sym (c .before .before .before .first-segment .ensures) ∙ c .before .before .if3 .left, sym (c .before .last-segment .ensures) ∙ c .if4 .left), omega arith)
+
+pub place-by-spec : {M : Type 1} → statement M
+place-by-spec =
+    tie.close
+    (tie.spec
+    secondary-requires
+    returns
+    supplementary-requires
+    returns-2
+    first-segment-requires
+    returns-3
+    last-segment-requires
+    returns-4
+    returns-5)

@@ -1,0 +1,19 @@
+-- `group_verdicts::unchecked` meets its contract. Assumes nothing.
+use borrow.Author.Needs.{needs}
+use Rattle.group_verdicts.proofs.unchecked.Statement.{statement}
+use Rattle.group_verdicts.proofs.unchecked.Tie as tie
+
+enum-told : tie.Need-enum-told
+enum-told c = search needs
+
+enum-known-c : tie.Need-enum-known-c
+enum-known-c c = search needs
+
+returns : tie.Need-returns
+returns c = search needs
+
+returns-2 : tie.Need-returns-2
+returns-2 c = rw (c .before .c .given .1)
+
+pub unchecked-spec : {M : Type 1} → statement M
+unchecked-spec = tie.close (tie.spec enum-told enum-known-c returns returns-2)

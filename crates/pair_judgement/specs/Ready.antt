@@ -1,0 +1,27 @@
+-- What is known of two records before they are treated, and of what treating them gives.
+use Prim.Native.Nat.{ℕ}
+use mathlib.Core.Path.{_≡_}
+use mathlib.Core.List.{List}
+use lib.ListN.{length}
+use Rattle.fields.specs.declared.Layout.{Layout}
+use Rattle.fields.specs.declared.RefPos.{RefPos}
+use Rattle.cigar.specs.declared.Extent.{Extent}
+use Rattle.fields.specs.Sound.{Sound}
+use Rattle.positions.specs.declared.Job.{Job}
+use Rattle.positions.specs.Step.{State}
+use Rattle.pair_merge.specs.Shared.{shared, merged}
+use Rattle.pair_judgement.specs.declared.Judged.the-variants as Judge
+use Rattle.pair_judgement.specs.Judgement.{judgedOf}
+
+-- two sound records that were judged to be on one reference
+pub record Ready (y z : Layout) (p q : Extent) (a b : List ℕ) : Type 0 where
+  pub first : Sound a y
+  pub second : Sound b z
+  pub place₁ : ℕ
+  pub place₂ : ℕ
+  pub both : judgedOf y z a b place₁ place₂ ≡ Judge.Both p q
+
+-- what treating them gives
+pub record TreatedTo (w : Job) (p q : RefPos) (s u : State) (n : ℕ) : Type 0 where
+  pub after : u ≡ merged w p q s
+  pub counted : n ≡ length (shared (w .first) (w .second) p q (s .first) (s .second))

@@ -1,0 +1,30 @@
+-- Where two records lie, by their headers alone: steps 4 to 6. (Laws: with the spans after it, that is the judgement.)
+use Prim.Native.Nat.{ℕ}
+use mathlib.Core.List.{List}
+use mathlib.Core.Bool.{cond, _||_}
+use Rattle.fields.specs.declared.Placed.{Placed}
+use Rattle.fields.specs.declared.Placed.the-variants as Places
+use Rattle.fields.specs.Flag.{hasBit, unmapped}
+use Rattle.fields.specs.Layout.{header}
+use Rattle.fields.specs.Placed.{placedOf, sameId}
+use Rattle.pair_judgement.specs.declared.Judged.{Judged}
+use Rattle.pair_judgement.specs.declared.Judged.the-variants as Judge
+use Rattle.pair_judgement.specs.declared.Where.{Where}
+use Rattle.pair_judgement.specs.declared.Where.the-variants.{Apart, On}
+
+-- both have a position
+abbrev pub bothAt : Placed → Placed → Where
+bothAt (Places.At p) (Places.At q) = On p q
+bothAt (Places.At p) Places.Unplaced = Apart
+bothAt Places.Unplaced y = Apart
+
+-- neither unmapped, both on one reference, both with a position
+unfoldable pub whereOf : List ℕ → List ℕ → Where
+whereOf a b =
+    cond (hasBit (header a .flags) unmapped || hasBit (header b .flags) unmapped) Apart
+    (cond (sameId (header a .refId) (header b .refId)) (bothAt (placedOf (header a .pos)) (placedOf (header b .pos))) Apart)
+
+-- what goes on where both lie on one reference
+abbrev pub onWhere : Where → (ℕ → ℕ → Judged) → Judged
+onWhere Apart rest = Judge.Apart
+onWhere (On p q) rest = rest p q

@@ -1,0 +1,157 @@
+// Two sound records judged by the order of judgement, steps 4 to 7, and treated where they share
+// positions.
+use cigar::Extent;
+use cigar::Operations;
+use cigar::Span;
+use fields::Layout;
+use fields::Placed;
+use fields::RefPos;
+use pair_merge::Met;
+use positions::Job;
+use refusal::Refusal;
+use stats::CorrectionStats;
+ghost use mathlib.Core.Path.{_≡_};
+ghost use Prim.Native.Nat.{ℕ, _≤_};
+ghost use lib.ListN.{length};
+ghost use Rattle.fields.specs.Sound.{Sound};
+ghost use Rattle.stats.specs.Room.{Room};
+ghost use Rattle.positions.specs.Step.{state};
+ghost use Rattle.pair_judgement.specs.Judgement.{onUses, onSpan, spanIn, judgedOf};
+ghost use Rattle.pair_judgement.specs.Ready.{Ready, TreatedTo};
+ghost use Rattle.pair_judgement.specs.Where.{whereOf};
+
+// Two sound records judged: refused, apart for what their headers say, or both placed on one
+// reference, each with the positions that it covers.
+pub enum Judged {
+    Refused(Refusal),
+    Apart,
+    Both(Extent, Extent),
+}
+
+// Where two records lie: apart for what their headers say, or both on one reference at these
+// positions.
+pub enum Where {
+    Apart,
+    On(u32, u32),
+}
+
+// Steps 4 to 6 of the order of judgement, from the headers alone.
+pub fn place(first: &[u8], second: &[u8]) -> Where
+    requires { ⌜ (32 ≤ length (now first)) × (32 ≤ length (now second)) ⌝ }
+    ensures { λ r. ⌜ r ≡ whereOf (now (first .entry)) (now (second .entry)) ⌝ }
+{
+    let f = fields::flags_of(first);
+    if f.unmapped() {
+        return Where::Apart;
+    }
+    let g = fields::flags_of(second);
+    if g.unmapped() {
+        return Where::Apart;
+    }
+    let same = fields::same_reference(first, second);
+    if !same {
+        return Where::Apart;
+    }
+    let at1 = fields::start_of(first);
+    let Placed::At(pos1) = at1 else {
+        return Where::Apart;
+    };
+    let at2 = fields::start_of(second);
+    let Placed::At(pos2) = at2 else {
+        return Where::Apart;
+    };
+    Where::On(pos1, pos2)
+}
+
+// The refusal of operations, as the answer of a span.
+fn unspanned(o: Operations) -> Span
+    ensures { λ r. ⌜ r ≡ onUses o (λ (n : ℕ). Span.Covers (record { start = record { 0 = 0 }; end = record { 0 = 0 } })) ⌝ }
+{
+    match o {
+        Operations::Uses(_) => Span::Covers(Extent {
+            start: RefPos(0),
+            end: RefPos(0),
+        }),
+        Operations::Refused(r) => Span::Refused(r),
+    }
+}
+
+// What the alignment of a sound record covers: its operations judged, then its end.
+pub fn span_of(s: &[u8], y: Layout, pos: u32, place: u16) -> Span
+    requires { ⌜ Sound (now s) y ⌝ }
+    ensures { λ r. ⌜ r ≡ spanIn y (now (s .entry)) pos place ⌝ }
+{
+    let o = cigar::check_operations(s, y, place);
+    let Operations::Uses(uses) = o else {
+        return unspanned(o);
+    };
+    cigar::check_span(pos, uses, place)
+}
+
+// The refusal of a span, as what is judged of a pair.
+fn unplaced(p: Span) -> Judged
+    ensures { λ r. ⌜ r ≡ onSpan p (λ (s : Extent). Judged.Apart) ⌝ }
+{
+    match p {
+        Span::Covers(_) => Judged::Apart,
+        Span::Refused(r) => Judged::Refused(r),
+    }
+}
+
+// Two sound records judged by steps 4 to 7, from their bytes alone; a refusal names the place given.
+pub fn judge(first: &[u8], second: &[u8], y: Layout, z: Layout, place1: u16, place2: u16) -> Judged
+    requires { ⌜ Sound (now first) y × Sound (now second) z ⌝ }
+    ensures { λ r. ⌜ r ≡ judgedOf y z (now (first .entry)) (now (second .entry)) place1 place2 ⌝ }
+{
+    let at = place(first, second);
+    let Where::On(pos1, pos2) = at else {
+        return Judged::Apart;
+    };
+    let span1 = span_of(first, y, pos1, place1);
+    let Span::Covers(extent1) = span1 else {
+        return unplaced(span1);
+    };
+    let span2 = span_of(second, z, pos2, place2);
+    let Span::Covers(extent2) = span2 else {
+        return unplaced(span2);
+    };
+    Judged::Both(extent1, extent2)
+}
+
+// No shared position.
+fn none_met(g: CorrectionStats) -> Met
+    ensures { λ r. ⌜ (r .shared ≡ 0) × (r .stats ≡ g) ⌝ }
+{
+    Met {
+        shared: 0,
+        stats: g,
+    }
+}
+
+// The shared positions of two records that were judged to be on one reference, treated. There are
+// none where a record has no base, or where one ends before the other begins.
+pub fn treat(
+    w: Job,
+    first: &mut [u8],
+    second: &mut [u8],
+    p: Extent,
+    q: Extent,
+    g: CorrectionStats,
+) -> Met
+    requires { ⌜ Ready (w .first) (w .second) p q (now first) (now second) × Room g 131072 ⌝ }
+    ensures { λ r. ⌜ TreatedTo w (p .start) (q .start) (state (now (first .entry)) (now (second .entry)) g) (state (now (first .exit)) (now (second .exit)) (r .stats)) (r .shared) ⌝ }
+{
+    if w.first.count == 0 {
+        return none_met(g);
+    }
+    if w.second.count == 0 {
+        return none_met(g);
+    }
+    if p.end.0 <= q.start.0 {
+        return none_met(g);
+    }
+    if q.end.0 <= p.start.0 {
+        return none_met(g);
+    }
+    pair_merge::merge(w, first, second, p.start, q.start, g)
+}
