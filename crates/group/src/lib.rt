@@ -42,6 +42,7 @@ fn refused(r: Refusal, stats: CorrectionStats) -> Grouped
 // The pairs of a group of n records: all are judged before any is written.
 fn group_pairs(
     buf: &mut [u8],
+    room: &mut [u8; 65536],
     begins: &[usize],
     n: usize,
     w: Strategies,
@@ -50,13 +51,13 @@ fn group_pairs(
     requires { ⌜ Placed (now buf) (now begins) n × (framesOf (now buf) ≡ Framing.Whole n) × (full stats ≡ false) ⌝ }
     ensures { λ r. ⌜ ended (r .answer) (now (buf .exit)) (r .stats) ≡ framedOf w (now (buf .entry)) stats ⌝ }
 {
-    let mut mate = [0usize; 256];
+    let mut mate = [1usize; 256];
     group_mates::find(buf, begins, n, &mut mate);
     let v = group_verdicts::judge_all(buf, begins, n, &mate);
     match v {
         Verdict::Refused(r) => refused(r, stats),
         Verdict::Passed => {
-            let applied = group_applying::apply_all(buf, begins, n, &mate, w, stats);
+            let applied = group_applying::apply_all(buf, room, begins, n, &mate, w, stats);
             let after = applied.stats;
             Grouped {
                 answer: GroupAnswer::Done {
@@ -71,15 +72,20 @@ fn group_pairs(
 }
 
 // The frames of a group, then its pairs.
-fn group_framed(buf: &mut [u8], w: Strategies, stats: CorrectionStats) -> Grouped
+fn group_framed(
+    buf: &mut [u8],
+    room: &mut [u8; 65536],
+    w: Strategies,
+    stats: CorrectionStats,
+) -> Grouped
     requires { ⌜ full stats ≡ false ⌝ }
     ensures { λ r. ⌜ ended (r .answer) (now (buf .exit)) (r .stats) ≡ framedOf w (now (buf .entry)) stats ⌝ }
 {
-    let mut begins = [0usize; 257];
+    let mut begins = [1usize; 257];
     let f = group_frames::cut(buf, &mut begins);
     match f {
         Framing::Broken(r) => refused(r, stats),
-        Framing::Whole(n) => group_pairs(buf, &begins, n, w, stats),
+        Framing::Whole(n) => group_pairs(buf, room, &begins, n, w, stats),
     }
 }
 
@@ -88,6 +94,7 @@ fn group_framed(buf: &mut [u8], w: Strategies, stats: CorrectionStats) -> Groupe
 pub fn group(buf: &mut [u8], agreement: u32, disagreement: u32, stats: CorrectionStats) -> Grouped
     ensures { λ r. ⌜ ended (r .answer) (now (buf .exit)) (r .stats) ≡ groupOf agreement disagreement (now (buf .entry)) stats ⌝ }
 {
+    let mut room = [0u8; 65536];
     let numbered = strategy::by_number(agreement, disagreement);
     match numbered {
         Numbered::Refused(r) => refused(r, stats),
@@ -95,7 +102,7 @@ pub fn group(buf: &mut [u8], agreement: u32, disagreement: u32, stats: Correctio
             if stats.full() {
                 return refused(Refusal::Count, stats);
             }
-            group_framed(buf, w, stats)
+            group_framed(buf, &mut room, w, stats)
         }
     }
 }

@@ -88,19 +88,19 @@ fn apply_pair(
     apply_parts(buf, room, start, end, mate_start, mate_end, w)
 }
 
-// Every pair of a group corrected, in order of the first's index. A room takes one record at a time.
+// Every pair of a group corrected, in order of the first's index. `room` takes one record at a time.
 pub fn apply_all(
     buf: &mut [u8],
+    room: &mut [u8],
     begins: &[usize],
     n: usize,
     mate: &[usize],
     w: Strategies,
     stats: CorrectionStats,
 ) -> Applied
-    requires { ⌜ Placed (now buf) (now begins) n × Mated (now buf) (now mate) n × Room stats (128 * 131072) ⌝ }
+    requires { ⌜ Placed (now buf) (now begins) n × Mated (now buf) (now mate) n × (65536 ≤ length (now room)) × Room stats (128 * 131072) ⌝ }
     ensures { λ r. ⌜ AppliedTo w (now (buf .entry)) (pairsOf (now (buf .entry)) n) stats (now (buf .exit)) r ⌝ }
 {
-    let mut room = [0u8; 65536];
     let mut pairs: usize = 0;
     let mut overlapping: usize = 0;
     let mut sum = stats;
@@ -110,7 +110,7 @@ pub fn apply_all(
         if m == 0 {
             i += 1;
         } else {
-            let called = apply_pair(buf, &mut room, begins, i, m - 1, w);
+            let called = apply_pair(buf, room, begins, i, m - 1, w);
             let answer = called.answer;
             let growth = called.stats;
             pairs += 1;

@@ -199,14 +199,15 @@ fn enter_mates(
 }
 
 // Finds the mates of the n records of a group. Afterwards `mate` holds one more than the index of
-// each registered first's mate, and 0 for the others of the n.
+// each registered first's mate, and 0 for the others of the n. (No entry of a table is read before it is
+// written; zeros would be left to memset, which takes an instruction a byte.)
 pub fn find(s: &[u8], begins: &[usize], n: usize, mate: &mut [usize])
     requires { ⌜ Placed (now s) (now begins) n × (256 ≤ length (now mate)) ⌝ }
     ensures { λ _. ⌜ Mated (now (s .entry)) (now (mate .exit)) n ⌝ }
 {
-    let mut key = [0u64; 256];
-    let mut head = [0usize; 256];
-    let mut next = [0usize; 256];
+    let mut key = [1u64; 256];
+    let mut head = [1usize; 256];
+    let mut next = [1usize; 256];
     enter_keys(s, begins, n, &mut key);
     link(&key, n, &mut head, &mut next);
     enter_mates(s, begins, &key, &head, &next, n, mate);

@@ -35,8 +35,9 @@ returns c =
 
 group-framed-requires : tie.Need-group-framed-requires
 group-framed-requires c κs =
-    let by-full = c .before .before in
-    sym (by-full .full .ensures) ∙ c .before .if1 .left
+    let by-if1 = c .before .before in
+    let by-full = by-if1 .before in
+    sym (by-full .full .ensures) ∙ by-if1 .if1 .left
 
 returns-2 : tie.Need-returns-2
 returns-2 c =
@@ -52,7 +53,7 @@ same-length c = search needs
 returns-3 : tie.Need-returns-3
 returns-3 c =
     let by-group-framed = c .before .before in
-    let by-if1 = by-group-framed .before .before in
+    let by-if1 = by-group-framed .before .before .before in
     let by-full = by-if1 .before in
     let by-numbered2 = by-full .before .before in
     let by-by-number = by-numbered2 .before .before in

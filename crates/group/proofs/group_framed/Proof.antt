@@ -26,7 +26,7 @@ slice-aggregate-group-pairs c = search needs
 
 group-pairs-requires : tie.Need-group-pairs-requires
 group-pairs-requires c κs =
-    let by-f2 = c .before .before .before in
+    let by-f2 = c .before .before .before .before in
     let by-cut = by-f2 .before .before .before in
     let entry = by-cut .before .before .before .before in
     (filled _ _ _ (by-cut .cut .result) (by-f2 .f2 .given .1) (by-cut .cut .ensures .1), sym (by-cut .cut .ensures .0) ∙ by-f2 .f2 .given .1, entry .pre)

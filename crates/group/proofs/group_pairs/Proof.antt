@@ -34,9 +34,9 @@ slice-aggregate-apply-all c = search needs
 
 apply-all-requires : tie.Need-apply-all-requires
 apply-all-requires c κs =
-    let by-find = c .before .before .before .before .before .before .before .before in
+    let by-find = c .before .before .before .before .before .before .before .before .before in
     let entry = by-find .before .before .before .before .before in
-    (entry .pre .0, by-find .find .ensures, full-room (entry .args .stats) (entry .pre .2))
+    (entry .pre .0, by-find .find .ensures, search needs, full-room (entry .args .stats) (entry .pre .2))
 
 same-length : tie.Need-same-length
 same-length c = search needs
@@ -55,7 +55,7 @@ same-length-2 c = search needs
 returns-2 : tie.Need-returns-2
 returns-2 c =
     let by-apply-all = c .before .before .before in
-    let by-enum-told = by-apply-all .before .before .before in
+    let by-enum-told = by-apply-all .before .before .before .before in
     let by-judge-all = by-enum-told .before .before in
     let entry = by-judge-all .before .before .before .before .before .before .before .before .before in
     let args = entry .args in

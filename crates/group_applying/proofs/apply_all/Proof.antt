@@ -10,30 +10,30 @@ use Rattle.group_applying.proofs.apply_all.Statement.{statement}
 use Rattle.group_applying.proofs.apply_all.Tie as tie
 
 abbrev Inv-loop : tie.InvT-loop
-Inv-loop buf₀ begins n mate w room₀ pairs₀ overlapping₀ sum₀ i₀ buf room pairs overlapping sum i = Applying w buf₀ sum₀ n (rest buf₀ n i) buf sum pairs overlapping × (i ≤ n) × (length buf ≡ length buf₀) × (length room ≡ length room₀)
+Inv-loop buf₀ room₀ begins n mate w pairs₀ overlapping₀ sum₀ i₀ buf room pairs overlapping sum i = Applying w buf₀ sum₀ n (rest buf₀ n i) buf sum pairs overlapping × (i ≤ n) × (length buf ≡ length buf₀) × (length room ≡ length room₀)
 
 abbrev μ-loop : tie.MeasureT-loop
-μ-loop buf₀ begins n mate w room₀ pairs₀ overlapping₀ sum₀ i₀ buf room pairs overlapping sum i = n - i
+μ-loop buf₀ room₀ begins n mate w pairs₀ overlapping₀ sum₀ i₀ buf room pairs overlapping sum i = n - i
 
 loop-holds : tie.Need-loop-holds Inv-loop μ-loop
 loop-holds c =
-    let entry = c .before .before .before in
+    let entry = c .before .before .before .before in
     let args = entry .args in
-    (applying-start (args .w) (now (args .buf)) (args .stats) (args .n) (entry .pre .0 .few) (entry .pre .2), omega arith, refl, refl)
+    (applying-start (args .w) (now (args .buf)) (args .stats) (args .n) (entry .pre .0 .few) (entry .pre .3), omega arith, refl, refl)
 
 mul-m : tie.Need-mul-m Inv-loop μ-loop
 mul-m c =
-    let entry = c .before .before .before .before .before in
+    let entry = c .before .before .before .before .before .before in
     omega (arith, entry .pre .0 .few)
 
 shared-slice-read-m : tie.Need-shared-slice-read-m Inv-loop μ-loop
 shared-slice-read-m c =
-    let entry = c .before .before .before .before .before .before in
+    let entry = c .before .before .before .before .before .before .before in
     omega (arith, entry .pre .0 .few, entry .pre .1 .wide)
 
 add-i : tie.Need-add-i Inv-loop μ-loop
 add-i c =
-    let entry = c .before .before .before .before .before .before .before in
+    let entry = c .before .before .before .before .before .before .before .before in
     omega (arith, entry .pre .0 .few)
 
 loop-less : tie.Need-loop-less Inv-loop μ-loop
@@ -45,13 +45,10 @@ loop-again : tie.Need-loop-again Inv-loop μ-loop
 loop-again c =
     let by-loop-test = c .before .before in
     let turn = by-loop-test .before in
-    let entry = turn .before .before .before .before in
+    let entry = turn .before .before .before .before .before in
     let args = entry .args in
     let loop = turn .loop in
     (applying-alone (args .w) (now (args .buf)) (args .stats) (args .n) (loop .i) (loop .buf) (loop .sum) (loop .pairs) (loop .overlapping) (loop .inv .0) (by-loop-test .loop-test .taken) (getD (now (args .mate)) (loop .i) 0) (entry .pre .1 .mates (loop .i) (by-loop-test .loop-test .taken)) (c .if1 .taken), omega (arith, by-loop-test .loop-test .taken), loop .inv .2, loop .inv .3)
-
-slice-aggregate-apply-pair : tie.Need-slice-aggregate-apply-pair Inv-loop μ-loop
-slice-aggregate-apply-pair c = search needs
 
 sub-apply-pair : tie.Need-sub-apply-pair Inv-loop μ-loop
 sub-apply-pair c = search needs
@@ -61,17 +58,17 @@ apply-pair-requires c κs =
     let by-if1 = c .before .before in
     let by-loop-test = by-if1 .before .before in
     let turn = by-loop-test .before in
-    let entry = turn .before .before .before .before in
+    let entry = turn .before .before .before .before .before in
     let args = entry .args in
     let loop = turn .loop in
-    given (args .w) (now (args .buf)) (args .stats) (args .n) (loop .i) (loop .buf) (loop .sum) (loop .pairs) (loop .overlapping) (loop .inv .0) (by-loop-test .loop-test .taken) (getD (now (args .mate)) (loop .i) 0) (entry .pre .1 .mates (loop .i) (by-loop-test .loop-test .taken)) (by-if1 .if1 .left) (now (args .begins)) (entry .pre .0) (length (loop .room)) (omega (arith, loop .inv .3))
+    given (args .w) (now (args .buf)) (args .stats) (args .n) (loop .i) (loop .buf) (loop .sum) (loop .pairs) (loop .overlapping) (loop .inv .0) (by-loop-test .loop-test .taken) (getD (now (args .mate)) (loop .i) 0) (entry .pre .1 .mates (loop .i) (by-loop-test .loop-test .taken)) (by-if1 .if1 .left) (now (args .begins)) (entry .pre .0) (length (loop .room)) (omega (arith, loop .inv .3, entry .pre .2))
 
 add-pairs : tie.Need-add-pairs Inv-loop μ-loop
 add-pairs c =
-    let by-if1 = c .before .before .before .before .before .before .before in
+    let by-if1 = c .before .before .before .before .before .before .before .before in
     let by-loop-test = by-if1 .before .before in
     let turn = by-loop-test .before in
-    let entry = turn .before .before .before .before in
+    let entry = turn .before .before .before .before .before in
     let args = entry .args in
     let loop = turn .loop in
     omega (arith, few-more (args .w) (now (args .buf)) (args .stats) (args .n) (loop .i) (loop .buf) (loop .sum) (loop .pairs) (loop .overlapping) (loop .inv .0) (by-loop-test .loop-test .taken) (getD (now (args .mate)) (loop .i) 0) (entry .pre .1 .mates (loop .i) (by-loop-test .loop-test .taken)) (by-if1 .if1 .left))
@@ -81,42 +78,42 @@ overlap-of-requires c κs = search needs
 
 add-overlapping : tie.Need-add-overlapping Inv-loop μ-loop
 add-overlapping c =
-    let by-if1 = c .before .before .before .before .before .before .before .before in
+    let by-if1 = c .before .before .before .before .before .before .before .before .before in
     let by-loop-test = by-if1 .before .before in
     let turn = by-loop-test .before in
-    let entry = turn .before .before .before .before in
+    let entry = turn .before .before .before .before .before in
     let args = entry .args in
     let loop = turn .loop in
     omega (arith, few-more (args .w) (now (args .buf)) (args .stats) (args .n) (loop .i) (loop .buf) (loop .sum) (loop .pairs) (loop .overlapping) (loop .inv .0) (by-loop-test .loop-test .taken) (getD (now (args .mate)) (loop .i) 0) (entry .pre .1 .mates (loop .i) (by-loop-test .loop-test .taken)) (by-if1 .if1 .left), loop .inv .0 .fewer, c .overlap-of .ensures .1)
 
 plus-requires : tie.Need-plus-requires Inv-loop μ-loop
 plus-requires c κs =
-    let by-apply-pair = c .before .before .before .before .before in
+    let by-apply-pair = c .before .before .before .before .before .before in
     let by-if1 = by-apply-pair .before .before .before in
     let by-loop-test = by-if1 .before .before in
     let turn = by-loop-test .before in
-    let entry = turn .before .before .before .before in
+    let entry = turn .before .before .before .before .before in
     let args = entry .args in
     let loop = turn .loop in
     adds (args .w) (now (args .buf)) (args .stats) (args .n) (loop .i) (loop .buf) (loop .sum) (loop .pairs) (loop .overlapping) (loop .inv .0) (by-loop-test .loop-test .taken) (getD (now (args .mate)) (loop .i) 0) (entry .pre .1 .mates (loop .i) (by-loop-test .loop-test .taken)) (by-if1 .if1 .left) (now (args .begins)) (entry .pre .0) (by-apply-pair .apply-pair .last .0) (by-apply-pair .apply-pair .result) (by-apply-pair .apply-pair .ensures)
 
 add-i-2 : tie.Need-add-i-2 Inv-loop μ-loop
 add-i-2 c =
-    let entry = c .before .before .before .before .before .before .before .before .before .before .before .before .before .before .before .before in
+    let entry = c .before .before .before .before .before .before .before .before .before .before .before .before .before .before .before .before .before .before in
     omega (arith, entry .pre .0 .few)
 
 loop-less-2 : tie.Need-loop-less-2 Inv-loop μ-loop
 loop-less-2 c =
-    let by-loop-test = c .before .before .before .before .before .before .before .before .before .before .before in
+    let by-loop-test = c .before .before .before .before .before .before .before .before .before .before .before .before in
     omega (arith, by-loop-test .loop-test .taken)
 
 loop-again-2 : tie.Need-loop-again-2 Inv-loop μ-loop
 loop-again-2 c =
-    let by-apply-pair = c .before .before .before .before .before .before in
+    let by-apply-pair = c .before .before .before .before .before .before .before in
     let by-if1 = by-apply-pair .before .before .before in
     let by-loop-test = by-if1 .before .before in
     let turn = by-loop-test .before in
-    let entry = turn .before .before .before .before in
+    let entry = turn .before .before .before .before .before in
     let args = entry .args in
     let loop = turn .loop in
     (applying-next (args .w) (now (args .buf)) (args .stats) (args .n) (loop .i) (loop .buf) (loop .sum) (loop .pairs) (loop .overlapping) (loop .inv .0) (by-loop-test .loop-test .taken) (getD (now (args .mate)) (loop .i) 0) (entry .pre .1 .mates (loop .i) (by-loop-test .loop-test .taken)) (by-if1 .if1 .left) (now (args .begins)) (entry .pre .0) (by-apply-pair .apply-pair .last .0) (by-apply-pair .apply-pair .result) (by-apply-pair .apply-pair .ensures) (c .before .overlap-of .result) (c .before .overlap-of .ensures .0) (c .plus .result) (c .plus .ensures), omega (arith, by-loop-test .loop-test .taken), by-apply-pair .apply-pair .kept .0 ∙ loop .inv .2, by-apply-pair .apply-pair .kept .1 .0 ∙ loop .inv .3)
@@ -124,9 +121,12 @@ loop-again-2 c =
 same-length : tie.Need-same-length Inv-loop μ-loop
 same-length c = c .before .loop .inv .2
 
+same-length-2 : tie.Need-same-length-2 Inv-loop μ-loop
+same-length-2 c = c .before .loop .inv .3
+
 returns : tie.Need-returns Inv-loop μ-loop
 returns c =
-    let entry = c .before .before .before .before .before in
+    let entry = c .before .before .before .before .before .before in
     let args = entry .args in
     applying-end (args .w) (now (args .buf)) (args .stats) (args .n) (c .before .loop .i) (c .before .loop .buf) _ (c .before .loop .inv .0) (omega (arith, c .loop-test .left))
 
@@ -142,7 +142,6 @@ apply-all-spec =
     add-i
     loop-less
     loop-again
-    slice-aggregate-apply-pair
     sub-apply-pair
     apply-pair-requires
     add-pairs
@@ -153,4 +152,5 @@ apply-all-spec =
     loop-less-2
     loop-again-2
     same-length
+    same-length-2
     returns)
