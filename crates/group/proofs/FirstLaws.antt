@@ -1,6 +1,6 @@
 -- The first refused pair: the verdict over the listed pairs, in the reader's words and back.
 use Prim.Native.Nat.{ℕ, zero, suc, _<_, _≤_}
-use mathlib.Core.Path.{_≡_, refl, sym, _∙_, ap, ap₂}
+use mathlib.Core.Path.{_≡_, refl, sym, _∙_, ap, ap₂, subst}
 use mathlib.Core.List.{List, [], _∷_}
 use mathlib.Core.Logic.{_⊎_, ⊎-elim}
 use native.Mathlib.Omega.{arith}
@@ -16,7 +16,8 @@ use Rattle.group_mates.specs.Promise.{Mates}
 use Rattle.group_mates.proofs.MateLaws.{Made, mate-mates, mates-mate, mates-among}
 use Rattle.group_verdicts.specs.declared.Verdict.{Verdict}
 use Rattle.group_verdicts.specs.declared.Verdict.the-variants as Verdicts
-use Rattle.group_verdicts.specs.Judged.{pairAt, atIndex, answered, verdictAt, onVerdict, judgeBy}
+use Rattle.group_verdicts.specs.Judged.{pairAt, judgedAt, Named, answered, verdictAt, onVerdict, judgeBy}
+use Rattle.group_verdicts.proofs.PlaceLaws.{named, judged-called, called-judged}
 use Rattle.group.specs.Promise.{FirstRefused}
 
 -- ---- all pairs pass
@@ -36,33 +37,29 @@ all-passed v (d ∷ l) e i j a = go (all-passed v l) (v (d .0) (d .1)) refl e
     go up (Verdicts.Refused r) f g = absurd (no-refusal r g)
 
 -- a pair that passes isn't refused
-not-refused : (i j : ℕ) (a : Answer) (r : Refusal) → answered i j a ≡ Verdicts.Passed → a ≡ Answers.Refused r → ⊥
-not-refused i j a r e f = no-refusal (atIndex i j r) (sym (ap (answered i j) f) ∙ e)
+not-refused : (a : Answer) (r : Refusal) → answered a ≡ Verdicts.Passed → a ≡ Answers.Refused r → ⊥
+not-refused a r e f = no-refusal r (sym (ap answered f) ∙ e)
 
 -- ---- which refusal: that of the first pair that is refused, of those that f makes for m records from a on
 record First (w : Strategies) (s : List ℕ) (f : ℕ → ℕ) (a m : ℕ) (r : Refusal) : Type 0 where
   i : ℕ
   j : ℕ
-  why : Refusal
   made : Made f i j a m
-  refused : pairAt w s i j .answer ≡ Answers.Refused why
-  named : r ≡ atIndex i j why
-  before : (i′ j′ : ℕ) (r′ : Refusal) → Made f i′ j′ a m → i′ < i → pairAt w s i′ j′ .answer ≡ Answers.Refused r′ → ⊥
+  refused : judgedAt w s i j ≡ Answers.Refused r
+  before : (i′ j′ : ℕ) (r′ : Refusal) → Made f i′ j′ a m → i′ < i → judgedAt w s i′ j′ ≡ Answers.Refused r′ → ⊥
 
 module _ (w : Strategies) (s : List ℕ) (f : ℕ → ℕ) (r : Refusal) where
   -- record a is in no refused pair, so the first is behind it
-  wider : (a m : ℕ) → ((j : ℕ) (r′ : Refusal) → f a ≡ suc j → pairAt w s a j .answer ≡ Answers.Refused r′ → ⊥)
+  wider : (a m : ℕ) → ((j : ℕ) (r′ : Refusal) → f a ≡ suc j → judgedAt w s a j ≡ Answers.Refused r′ → ⊥)
       → First w s f (suc a) m r → First w s f a (suc m) r
   wider a m ok b = record {
     i = b .i;
     j = b .j;
-    why = b .why;
     made = record { low = omega (arith, b .made .low); high = omega (arith, b .made .high); made = b .made .made };
     refused = b .refused;
-    named = b .named;
     before = λ i′ j′ r′ x l y.
         ⊎-elim (λ (q : a < i′). b .before i′ j′ r′ (record { low = omega arith; high = omega (arith, x .high); made = x .made }) l y)
-        (λ (q : i′ ≤ a). let z : i′ ≡ a = omega (arith, x .low) in ok j′ r′ (ap f (sym z) ∙ x .made) (ap (λ (c : ℕ). pairAt w s c j′ .answer) (sym z) ∙ y))
+        (λ (q : i′ ≤ a). let z : i′ ≡ a = omega (arith, x .low) in ok j′ r′ (ap f (sym z) ∙ x .made) (ap (λ (c : ℕ). judgedAt w s c j′) (sym z) ∙ y))
         (lt-or-le a i′);
   }
 
@@ -72,24 +69,22 @@ module _ (w : Strategies) (s : List ℕ) (f : ℕ → ℕ) (r : Refusal) where
   stops zero a e = absurd (no-refusal r (sym e))
   stops (suc m) a e = go (f a) refl (stops m (suc a)) e
     where
-      passes : (j : ℕ) (x : Answer) → f a ≡ suc j → pairAt w s a j .answer ≡ x → answered a j x ≡ Verdicts.Passed
-          → (j′ : ℕ) (r′ : Refusal) → f a ≡ suc j′ → pairAt w s a j′ .answer ≡ Answers.Refused r′ → ⊥
+      passes : (j : ℕ) (x : Answer) → f a ≡ suc j → judgedAt w s a j ≡ x → answered x ≡ Verdicts.Passed
+          → (j′ : ℕ) (r′ : Refusal) → f a ≡ suc j′ → judgedAt w s a j′ ≡ Answers.Refused r′ → ⊥
       passes j x d q ok j′ r′ d′ t =
           let z : j ≡ j′ = omega (arith, sym d ∙ d′) in
-          not-refused a j x r′ ok (sym q ∙ ap (λ (c : ℕ). pairAt w s a c .answer) z ∙ t)
+          not-refused x r′ ok (sym q ∙ ap (judgedAt w s a) z ∙ t)
 
-      at : (j : ℕ) (x : Answer) → f a ≡ suc j → pairAt w s a j .answer ≡ x
+      at : (j : ℕ) (x : Answer) → f a ≡ suc j → judgedAt w s a j ≡ x
           → (judgeBy (verdictAt w s) (pairsFrom f (suc a) m) ≡ Verdicts.Refused r → First w s f (suc a) m r)
-          → onVerdict (answered a j x) (judgeBy (verdictAt w s) (pairsFrom f (suc a) m)) ≡ Verdicts.Refused r → First w s f a (suc m) r
+          → onVerdict (answered x) (judgeBy (verdictAt w s) (pairsFrom f (suc a) m)) ≡ Verdicts.Refused r → First w s f a (suc m) r
       at j (Answers.Refused y) d q rest t =
-          let b : atIndex a j y ≡ r = cc in
+          let b : y ≡ r = cc in
           record {
             i = a;
             j = j;
-            why = y;
             made = record { low = omega arith; high = omega arith; made = d };
-            refused = q;
-            named = sym b;
+            refused = q ∙ ap Answers.Refused b;
             before = λ i′ j′ r′ x′ l y′. omega (arith, x′ .low);
           }
       at j Answers.NoOverlap d q rest t = wider a m (passes j Answers.NoOverlap d q refl) (rest t)
@@ -98,7 +93,7 @@ module _ (w : Strategies) (s : List ℕ) (f : ℕ → ℕ) (r : Refusal) where
       go : (v : ℕ) → f a ≡ v → (judgeBy (verdictAt w s) (pairsFrom f (suc a) m) ≡ Verdicts.Refused r → First w s f (suc a) m r)
           → judgeBy (verdictAt w s) (mateCons a v (pairsFrom f (suc a) m)) ≡ Verdicts.Refused r → First w s f a (suc m) r
       go zero d rest t = wider a m (λ j r′ z q. omega (arith, sym d ∙ z)) (rest t)
-      go (suc j) d rest t = at j (pairAt w s a j .answer) d refl rest t
+      go (suc j) d rest t = at j (judgedAt w s a j) d refl rest t
 
 -- ---- the pairs of the group s of n records
 module _ (w : Strategies) (s : List ℕ) (n : ℕ) where
@@ -113,38 +108,35 @@ module _ (w : Strategies) (s : List ℕ) (n : ℕ) where
       record {
         i = b .i;
         j = b .j;
-        why = b .why;
         mates = mate-mates s n (b .i) (b .j) (omega (arith, b .made .high)) (b .made .made);
         refused = b .refused;
-        named = b .named;
         before = λ i′ j′ r′ x l y. b .before i′ j′ r′ (record { low = omega arith; high = omega (arith, x .first .below); made = mates-mate s n i′ j′ x }) l y;
       }
 
   -- all pass exactly where no pair of mates is refused
   pub judged-passed : judgement ≡ Verdicts.Passed → (i j : ℕ) (r : Refusal) → Mates s n i j → pairAt w s i j .answer ≡ Answers.Refused r → ⊥
-  judged-passed e i j r m f = not-refused i j (pairAt w s i j .answer) r (all-passed (verdictAt w s) (pairsOf s n) e i j (mates-among s n i j m)) f
+  judged-passed e i j r m f = let q = called-judged w s i j r f in not-refused (judgedAt w s i j) (q .0) (all-passed (verdictAt w s) (pairsOf s n) e i j (mates-among s n i j m)) (q .1)
 
   pub passed-judged : ((i j : ℕ) (r : Refusal) → Mates s n i j → pairAt w s i j .answer ≡ Answers.Refused r → ⊥) → judgement ≡ Verdicts.Passed
   passed-judged f = go judgement refl
     where
       go : (v : Verdict) → judgement ≡ v → v ≡ Verdicts.Passed
       go Verdicts.Passed e = refl
-      go (Verdicts.Refused r) e = let b = judged-first r e in absurd (f (b .i) (b .j) (b .why) (b .mates) (b .refused))
+      go (Verdicts.Refused r) e = let b = judged-first r e in let q = judged-called w s (b .i) (b .j) r (b .refused) in absurd (f (b .i) (b .j) (q .0) (b .mates) (q .1))
 
   -- no second refusal is that of the first refused pair
   one-first : (r q : Refusal) → FirstRefused w s n r → FirstRefused w s n q → r ≡ q
   one-first r q a b =
       let x : a .i ≡ b .i = same (lt-or-le (a .i) (b .i)) (lt-or-le (b .i) (a .i)) in
       let y : a .j ≡ b .j = omega (arith, sym (mates-mate s n (a .i) (a .j) (a .mates)) ∙ ap (matesOf s n) x ∙ mates-mate s n (b .i) (b .j) (b .mates)) in
-      let t : Answers.Refused (a .why) ≡ Answers.Refused (b .why) = sym (a .refused) ∙ (λ d. pairAt w s (x d) (y d) .answer) ∙ b .refused in
-      let z : a .why ≡ b .why = cc in
-      a .named ∙ (λ d. atIndex (x d) (y d) (z d)) ∙ sym (b .named)
+      let t : Answers.Refused r ≡ Answers.Refused q = sym (a .refused) ∙ ap₂ (judgedAt w s) x y ∙ b .refused in
+      cc
     where
       same : (a .i < b .i) ⊎ (b .i ≤ a .i) → (b .i < a .i) ⊎ (a .i ≤ b .i) → a .i ≡ b .i
       same u v =
-          ⊎-elim (λ (l : a .i < b .i). absurd (b .before (a .i) (a .j) (a .why) (a .mates) l (a .refused)))
+          ⊎-elim (λ (l : a .i < b .i). absurd (b .before (a .i) (a .j) r (a .mates) l (a .refused)))
           (λ (m : b .i ≤ a .i).
-          ⊎-elim (λ (l : b .i < a .i). absurd (a .before (b .i) (b .j) (b .why) (b .mates) l (b .refused))) (λ (m′ : a .i ≤ b .i). omega arith) v)
+          ⊎-elim (λ (l : b .i < a .i). absurd (a .before (b .i) (b .j) q (b .mates) l (b .refused))) (λ (m′ : a .i ≤ b .i). omega arith) v)
           u
 
   -- so the first refused pair decides the judgement
@@ -152,5 +144,9 @@ module _ (w : Strategies) (s : List ℕ) (n : ℕ) where
   first-judged r b = go judgement refl
     where
       go : (v : Verdict) → judgement ≡ v → v ≡ Verdicts.Refused r
-      go Verdicts.Passed e = absurd (judged-passed e (b .i) (b .j) (b .why) (b .mates) (b .refused))
+      go Verdicts.Passed e = let q = judged-called w s (b .i) (b .j) r (b .refused) in absurd (judged-passed e (b .i) (b .j) (q .0) (b .mates) (q .1))
       go (Verdicts.Refused q) e = ap Verdicts.Refused (one-first q r (judged-first q e) b)
+
+  -- the pair call refuses that pair too: by the same number, at record 1 where the group names i and at record 2 where it names j
+  pub first-named : (r : Refusal) (b : FirstRefused w s n r) → Named (b .i) (b .j) (pairAt w s (b .i) (b .j) .answer) (Answers.Refused r)
+  first-named r b = subst (Named (b .i) (b .j) (pairAt w s (b .i) (b .j) .answer)) (b .refused) (named w s (b .i) (b .j))

@@ -20,7 +20,7 @@ use Rattle.group_frames.specs.declared.Framing.the-variants.{Whole, Broken}
 use Rattle.group_frames.specs.Frame.{startOf, endOf, framesOf}
 use Rattle.fields.specs.Among.{Among}
 use Rattle.group_mates.specs.Promise.{Mates, Once}
-use Rattle.group_verdicts.specs.Judged.{pairAt, atIndex}
+use Rattle.group_verdicts.specs.Judged.{pairAt, judgedAt}
 use Rattle.group_applying.specs.Applied.{overlapsIn}
 
 -- the list has each pair of mates, and no other; each record stands in at most one
@@ -48,15 +48,13 @@ pub record Accepted (w : Strategies) (s : List ℕ) (g : CorrectionStats) (n p o
   pub size : length u ≡ length s
   pub numbered : (l : List (ℕ × ℕ)) → Paired s n l → (p ≡ length l) × (o ≡ overlapsIn w s l) × (h ≡ plus g (pairGrowths w s l))
 
--- the pair of the least first's index that the pair call refuses is refused so, at its record at fault
+-- of the pairs that are judged to be refused, that of the least first's index is refused by r, at the index of its record at fault
 pub record FirstRefused (w : Strategies) (s : List ℕ) (n : ℕ) (r : Refusal) : Type 0 where
   pub i : ℕ
   pub j : ℕ
-  pub why : Refusal
   pub mates : Mates s n i j
-  pub refused : pairAt w s i j .answer ≡ Answers.Refused why
-  pub named : r ≡ atIndex i j why
-  pub before : (i′ j′ : ℕ) (r′ : Refusal) → Mates s n i′ j′ → i′ < i → pairAt w s i′ j′ .answer ≡ Answers.Refused r′ → ⊥
+  pub refused : judgedAt w s i j ≡ Answers.Refused r
+  pub before : (i′ j′ : ℕ) (r′ : Refusal) → Mates s n i′ j′ → i′ < i → judgedAt w s i′ j′ ≡ Answers.Refused r′ → ⊥
 
 -- the number x and the place y of the first check that fails: of the strategies' numbers m and k, the counts g, the frames of s, its pairs
 pub data FirstFailed (m k : ℕ) (s : List ℕ) (g : CorrectionStats) : ℕ → ℕ → Type 0 where

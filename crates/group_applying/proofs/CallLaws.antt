@@ -51,7 +51,7 @@ pub call-long : (w : Strategies) (s : State) → Long s (pairOf w s)
 unfolding pairOf recordsOf
 call-long w s = go (full (s .stats))
   where
-    go : (t : Bool) → Long s (cond t (outcome (Answers.Refused Count) s) (recordsOf w s))
+    go : (t : Bool) → Long s (cond t (outcome (Answers.Refused Count) s) (recordsOf w s 1 2))
     go true = record { first = refl; second = refl }
     go false = long-good s (checkOf (s .first) 1) _ (λ y. long-good s (checkOf (s .second) 2) _ (λ z. long-judged w y z s (judgedOf y z (s .first) (s .second) 1 2)))
 

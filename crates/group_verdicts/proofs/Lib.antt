@@ -1,2 +1,3 @@
 pub mod IndexLaws
+pub mod PlaceLaws
 pub mod JudgeLaws

@@ -1,55 +1,45 @@
--- The pairs of a group, judged by the pair call.
+-- The pairs of a group, judged as the pair call judges them.
 use Prim.Native.Nat.{ℕ}
-use mathlib.Core.Bool.{cond}
+use mathlib.Core.Path.{_≡_}
 use mathlib.Core.List.{List, [], _∷_}
-use lib.Dec.{eqb}
 use Rattle.refusal.specs.declared.Refusal.{Refusal}
-use Rattle.refusal.specs.declared.Refusal.the-variants.{RecordShort, RecordLong, NameAndOperations, BasesAndQualities, OperationCode, OperationLength, ReadTotal, ReferenceEnd, Count, Strategy, Frame, TooManyRecords, Sum, Input, CountsSlice, OutputShort, TrailerMissing, TrailerField}
+use Rattle.refusal.specs.Table.{numberOf, placeOf}
 use Rattle.stats.specs.Counts.{zeroed}
 use Rattle.strategy.specs.declared.Strategies.{Strategies}
-use Rattle.positions.specs.Step.{state}
+use Rattle.positions.specs.Step.{State, state}
 use Rattle.pair.specs.declared.Answer.{Answer}
 use Rattle.pair.specs.declared.Answer.the-variants as Answers
-use Rattle.pair.specs.Pair.{Outcome, pairOf}
+use Rattle.pair.specs.Pair.{Outcome, recordsOf, pairOf}
 use Rattle.group_frames.specs.Frame.{recordOf}
 use Rattle.group_verdicts.specs.declared.Verdict.{Verdict}
 use Rattle.group_verdicts.specs.declared.Verdict.the-variants.{Passed, Refused}
 
--- what the pair call gives for records i and j of the group s, its counts begun at 0
+-- records i and j of the group s, with counts from 0
+abbrev pub bothAt : List ℕ → ℕ → ℕ → State
+bothAt s i j = state (recordOf s i) (recordOf s j) zeroed
+
+-- what the pair call gives for them
 abbrev pub pairAt : Strategies → List ℕ → ℕ → ℕ → Outcome
-pairAt w s i j = pairOf w (state (recordOf s i) (recordOf s j) zeroed)
+pairAt w s i j = pairOf w (bothAt s i j)
 
--- a pair call's refusal names record 1 or 2; a group's names that record's index
-abbrev pub indexOf : ℕ → ℕ → ℕ → ℕ
-indexOf i j place = cond (eqb place 1) i j
+-- how they are judged: as in the pair call from step 3 on, a refusal at the index of the record at fault
+abbrev pub judgedAt : Strategies → List ℕ → ℕ → ℕ → Answer
+judgedAt w s i j = recordsOf w (bothAt s i j) i j .answer
 
-abbrev pub atIndex : ℕ → ℕ → Refusal → Refusal
-atIndex i j (RecordShort p) = RecordShort (indexOf i j p)
-atIndex i j (RecordLong p) = RecordLong (indexOf i j p)
-atIndex i j (NameAndOperations p) = NameAndOperations (indexOf i j p)
-atIndex i j (BasesAndQualities p) = BasesAndQualities (indexOf i j p)
-atIndex i j (OperationCode p) = OperationCode (indexOf i j p)
-atIndex i j (OperationLength p) = OperationLength (indexOf i j p)
-atIndex i j (ReadTotal p) = ReadTotal (indexOf i j p)
-atIndex i j (ReferenceEnd p) = ReferenceEnd (indexOf i j p)
-atIndex i j Count = Count
-atIndex i j Strategy = Strategy
-atIndex i j (Frame p) = Frame p
-atIndex i j TooManyRecords = TooManyRecords
-atIndex i j Sum = Sum
-atIndex i j Input = Input
-atIndex i j CountsSlice = CountsSlice
-atIndex i j OutputShort = OutputShort
-atIndex i j TrailerMissing = TrailerMissing
-atIndex i j TrailerField = TrailerField
+-- an answer of the pair call, and how the group has it: the same; or a refusal of that number, at i for record 1 and at j for record 2
+pub data Named (i j : ℕ) : Answer → Answer → Type 0 where
+  apart : Named i j Answers.NoOverlap Answers.NoOverlap
+  overlap : Named i j Answers.Overlap Answers.Overlap
+  at-first : (r q : Refusal) → numberOf q ≡ numberOf r → placeOf r ≡ 1 → placeOf q ≡ i → Named i j (Answers.Refused r) (Answers.Refused q)
+  at-second : (r q : Refusal) → numberOf q ≡ numberOf r → placeOf r ≡ 2 → placeOf q ≡ j → Named i j (Answers.Refused r) (Answers.Refused q)
 
-abbrev pub answered : ℕ → ℕ → Answer → Verdict
-answered i j Answers.NoOverlap = Passed
-answered i j Answers.Overlap = Passed
-answered i j (Answers.Refused r) = Refused (atIndex i j r)
+abbrev pub answered : Answer → Verdict
+answered Answers.NoOverlap = Passed
+answered Answers.Overlap = Passed
+answered (Answers.Refused r) = Refused r
 
 abbrev pub verdictAt : Strategies → List ℕ → ℕ → ℕ → Verdict
-verdictAt w s i j = answered i j (pairAt w s i j .answer)
+verdictAt w s i j = answered (judgedAt w s i j)
 
 -- one refusal refuses all
 abbrev pub onVerdict : Verdict → Verdict → Verdict

@@ -35,7 +35,7 @@ module _ (w : Strategies) (s : State) where
   call-full e = rw e
 
   module _ (room : full (s .stats) ≡ false) where
-    records : recordsOf w s ≡ pairOf w s
+    records : recordsOf w s 1 2 ≡ pairOf w s
     unfolding pairOf
     records = rw room
 

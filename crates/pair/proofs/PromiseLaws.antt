@@ -72,7 +72,7 @@ quiet : (w : Strategies) (s : State) → Quiet s (pairOf w s)
 unfolding pairOf recordsOf Quiet
 quiet w s = go (full (s .stats))
   where
-    go : (t : Bool) → Quiet s (cond t (outcome (Answers.Refused Count) s) (recordsOf w s))
+    go : (t : Bool) → Quiet s (cond t (outcome (Answers.Refused Count) s) (recordsOf w s 1 2))
     go true = inl refl
     go false = quiet-good (checkOf (s .first) 1) s _ (λ y. quiet-good (checkOf (s .second) 2) s _ (λ z. quiet-judged w y z s (judgedOf y z (s .first) (s .second) 1 2)))
 
@@ -122,7 +122,7 @@ passed w s o e n = on-full (full (s .stats)) e
     on-records (Good y) f h = on-first y f (checkOf (s .second) 2) refl h
     on-records (Bad r) f h = absurd (n r (sym (answer-of _ _ h)))
 
-    on-full : (t : Bool) → cond t (outcome (Answers.Refused Count) s) (recordsOf w s) ≡ o → Passed w s o
+    on-full : (t : Bool) → cond t (outcome (Answers.Refused Count) s) (recordsOf w s 1 2) ≡ o → Passed w s o
     on-full true h = absurd (n Count (sym (answer-of _ _ h)))
     on-full false h = on-records (checkOf (s .first) 1) refl h
 

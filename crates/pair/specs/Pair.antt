@@ -44,13 +44,13 @@ abbrev pub onGood : Checked → State → (Layout → Outcome) → Outcome
 onGood (Good y) s rest = rest y
 onGood (Bad r) s rest = outcome (Answers.Refused r) s
 
--- step 3, first record before second; then the rest
-unfoldable pub recordsOf : Strategies → State → Outcome
-recordsOf w s = onGood (checkOf (s .first) 1) s (λ y. onGood (checkOf (s .second) 2) s (λ z. onJudged w y z s (judgedOf y z (s .first) (s .second) 1 2)))
+-- step 3, first record before second; then the rest. A refusal names the first record by i, the second by j
+unfoldable pub recordsOf : Strategies → State → ℕ → ℕ → Outcome
+recordsOf w s i j = onGood (checkOf (s .first) i) s (λ y. onGood (checkOf (s .second) j) s (λ z. onJudged w y z s (judgedOf y z (s .first) (s .second) i j)))
 
 -- the whole call: step 2 is the statistics
 unfoldable pub pairOf : Strategies → State → Outcome
-pairOf w s = cond (full (s .stats)) (outcome (Answers.Refused Count) s) (recordsOf w s)
+pairOf w s = cond (full (s .stats)) (outcome (Answers.Refused Count) s) (recordsOf w s 1 2)
 
 -- what an exported call answers
 abbrev pub answerCode : Answer → ℕ
