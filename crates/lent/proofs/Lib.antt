@@ -1,1 +1,2 @@
+pub mod LendLaws
 pub mod MergeLaws

@@ -8,7 +8,7 @@ ghost use lib.ListN.{length};
 ghost use Rattle.view.specs.View.{flagsOf, refIdOf, posOf, operationCountOf, lSeqOf};
 
 // What the first 20 bytes of a record hold. Reference id and position are given as their four bytes
-// are, so that 4294967295 is -1.
+// are, so that 0xffffffff is -1.
 struct Header {
     reference: u32,
     pos: u32,
@@ -208,18 +208,18 @@ fn numbers() {
     show(
         32,
         Header {
-            reference: 16909060,
-            pos: 84281096,
+            reference: 0x01020304,
+            pos: 0x05060708,
             name: 0,
-            operations: 2571,
-            flags: 3085,
-            bases: 219025168,
+            operations: 0x0a0b,
+            flags: 0x0c0d,
+            bases: 0x0d0e0f10,
         },
     );
     show(
         32,
         Header {
-            reference: 4294967295,
+            reference: 0xffffffff,
             pos: 2147483647,
             name: 0,
             operations: 65535,
@@ -231,7 +231,7 @@ fn numbers() {
         32,
         Header {
             reference: 2147483647,
-            pos: 4294967295,
+            pos: 0xffffffff,
             name: 0,
             operations: 1,
             flags: 1,
@@ -241,8 +241,8 @@ fn numbers() {
     show(
         32,
         Header {
-            reference: 2147483648,
-            pos: 2147483648,
+            reference: 0x80000000,
+            pos: 0x80000000,
             name: 0,
             operations: 0,
             flags: 4,
@@ -254,12 +254,12 @@ fn numbers() {
 // A record under 32 bytes has none of them.
 fn too_short() {
     let full = Header {
-        reference: 16909060,
-        pos: 84281096,
+        reference: 0x01020304,
+        pos: 0x05060708,
         name: 7,
-        operations: 2571,
-        flags: 3085,
-        bases: 219025168,
+        operations: 0x0a0b,
+        flags: 0x0c0d,
+        bases: 0x0d0e0f10,
     };
     show(31, full);
     show(20, full);
