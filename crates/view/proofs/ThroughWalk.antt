@@ -118,7 +118,8 @@ module _ (res : Slot 1) (claim : Claims res) (τ : Ty) (typed : Typed res τ) (m
         suffices ! _ (ends-at 𝓤 H A (read res) stayed (reads 𝓤 res claim) W (((κ, tt), (q, tt), tt, (s, tt), (v ∷ [], tt)), tt) u r (tt, tt) (tt, tt)) $ says ! e $
         move ! (1 ∷ []) $ frame ! $ nothing ! $ move ! (2 ∷ 0 ∷ []) $ fjoin ! $ frame ! $ done !
 
-    module _ (C : Calls 𝓤 H) (Λ : Loops 𝓤 H) (fm : FmC 𝓤 H (W .laws) C) (known-new : Triple 𝓤 (C new-def.name) (New 𝓤 H A mem run)) (known : Triple 𝓤 (C m) (Method 𝓤 H A res claim)) where
+    module _ (C : Calls 𝓤 H) (Λ : Loops 𝓤 H) (fm : FmC 𝓤 H (W .laws) C)
+        (known-new : Triple 𝓤 (C new-def.name) (New 𝓤 H A mem run)) (known : Triple 𝓤 (C m) (Method 𝓤 H A res claim)) where
       walk : Is (ShrSlice (named 0) κ u8) s (v ∷ []) → ent 𝓤 (onEntry 𝓤 H A (read res .signature) (κ, tt) (q, tt) (s, tt) (v ∷ [], tt)) (WpFn 𝓤 H C Λ (through τ m) (v ∷ []) Post)
       walk p =
           qed W (raw (onEntry 𝓤 H A (read res .signature) (κ, tt) (q, tt) (s, tt) (v ∷ [], tt)) ∷ []) ∵ enter ! C Λ (through τ m) (v ∷ []) _ $
@@ -140,10 +141,15 @@ module _ (res : Slot 1) (claim : Claims res) (τ : Ty) (typed : Typed res τ) (m
           returns ! (look ! 7 refl) $ forget ! 3 refl $ forget ! 5 refl $ forget ! 7 refl $ move ! (7 ∷ 8 ∷ []) $ free1 ! $ move ! (5 ∷ 6 ∷ []) $ free1 ! $ move ! (3 ∷ 4 ∷ []) $ free1 ! $ free0 ! $
           by ! (exits r u′ (subst (Claim r) e c)))))))))))))
 
-  module _ {M : Type 1} (𝓤 : URA M) (H : Heap 𝓤) (A : Atoms 𝓤) (W : Given 𝓤 H A) (mem : Memory → SProp 𝓤) (run : Routine → Fun 𝓤) (𝓣 : Tables 𝓤 H) (known-new : Triple 𝓤 (𝓣 .C new-def.name) (New 𝓤 H A mem run)) (known : Triple 𝓤 (𝓣 .C m) (Method 𝓤 H A res claim)) where
+  module _ {M : Type 1} (𝓤 : URA M) (H : Heap 𝓤) (A : Atoms 𝓤) (W : Given 𝓤 H A) (mem : Memory → SProp 𝓤) (run : Routine → Fun 𝓤) (𝓣 : Tables 𝓤 H)
+      (known-new : Triple 𝓤 (𝓣 .C new-def.name) (New 𝓤 H A mem run)) (known : Triple 𝓤 (𝓣 .C m) (Method 𝓤 H A res claim)) where
     walks : Walks 𝓤 H A (read res) stayed (WpFn 𝓤 H (𝓣 .C) (𝓣 .Λ) (through τ m)) (reads 𝓤 res claim)
-    walks = walked 𝓤 H A (read res) stayed (reads 𝓤 res claim) (WpFn 𝓤 H (𝓣 .C) (𝓣 .Λ) (through τ m)) (λ κs. (slice-vals, tt)) (λ κs. (shr-slice-tells (named 0) (κs .0) u8, tt))
+    walks =
+        walked 𝓤 H A (read res) stayed (reads 𝓤 res claim) (WpFn 𝓤 H (𝓣 .C) (𝓣 .Λ) (through τ m)) (λ κs. (slice-vals, tt))
+        (λ κs. (shr-slice-tells (named 0) (κs .0) u8, tt))
         (λ κs qs bounds a g are. via 𝓤 _ (fst∗ 𝓤 _ (emp 𝓤)) (walk 𝓤 H A W mem run (κs .0) (qs .0) (a .0) (𝓣 .C) (𝓣 .Λ) (fmOf 𝓤 H (W .laws) 𝓣) known-new known (are .0)))
 
     pub through-meets : Meets 𝓤 H A (read res .signature) (WpFn 𝓤 H (𝓣 .C) (𝓣 .Λ) (through τ m)) (closing 𝓤 H A (read res) (reads 𝓤 res claim))
-    through-meets = walk-meets 𝓤 H A (read res) stayed W (goes-none-slice 𝓤 H A W 1 (0 ∷ []) tt (plain (λ _. u8)) yes, tt) (reads 𝓤 res claim) (WpFn 𝓤 H (𝓣 .C) (𝓣 .Λ) (through τ m)) (WpFn-mono 𝓤 H (W .laws) 𝓣 (through τ m)) walks
+    through-meets =
+        walk-meets 𝓤 H A (read res) stayed W (goes-none-slice 𝓤 H A W 1 (0 ∷ []) tt (plain (λ _. u8)) yes, tt) (reads 𝓤 res claim)
+        (WpFn 𝓤 H (𝓣 .C) (𝓣 .Λ) (through τ m)) (WpFn-mono 𝓤 H (W .laws) 𝓣 (through τ m)) walks

@@ -25,7 +25,17 @@ returns c =
     let by-shared-slice-known = c .before .before in
     let entry = by-shared-slice-known .before in
     let args = entry .args in
-    record { base = omega (arith, base-even (now (args .s)) (args .y) (args .i .0) (c .if1 .taken), by-shared-slice-known .shared-slice-known .given (args .y .bases + args .i .0 / 2)); quality = refl; small = omega (arith, by-shared-slice-known .shared-slice-known .given (args .y .bases + args .i .0 / 2)) }
+    record {
+      base
+          = omega (
+            arith,
+            base-even (now (args .s)) (args .y) (args .i .0) (c .if1 .taken),
+            by-shared-slice-known .shared-slice-known .given (args .y .bases + args .i .0 / 2),
+          );
+      quality = refl;
+      small
+          = omega (arith, by-shared-slice-known .shared-slice-known .given (args .y .bases + args .i .0 / 2));
+    }
 
 returns-2 : tie.Need-returns-2
 returns-2 c =

@@ -23,10 +23,16 @@ slice-write-s : tie.Need-slice-write-s
 slice-write-s c = search needs
 
 mul-s-2 : tie.Need-mul-s-2
-mul-s-2 c = omega (arith, c .before .slice-known .given (c .before .before .args .y .bases + c .before .before .args .i .0 / 2))
+mul-s-2 c =
+    let entry = c .before .before in
+    let args = entry .args in
+    omega (arith, c .before .slice-known .given (args .y .bases + args .i .0 / 2))
 
 add-s-2 : tie.Need-add-s-2
-add-s-2 c = omega (arith, c .before .slice-known .given (c .before .before .args .y .bases + c .before .before .args .i .0 / 2))
+add-s-2 c =
+    let entry = c .before .before in
+    let args = entry .args in
+    omega (arith, c .before .slice-known .given (args .y .bases + args .i .0 / 2))
 
 slice-write-s-2 : tie.Need-slice-write-s-2
 slice-write-s-2 c = search needs

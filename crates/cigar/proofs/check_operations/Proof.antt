@@ -24,7 +24,8 @@ returns c =
     let by-walk-operations = by-w .before .before in
     let entry = by-walk-operations .before .before in
     let args = entry .args in
-    judged-empty (args .y) (now (args .s)) (args .place) (by-w .w .given .0 .0) (by-w .w .given .0 .1 .0) (by-walk-operations .walk-operations .result) (by-walk-operations .walk-operations .ensures) (by-w .w .given .1) (c .if1 .taken)
+    judged-empty (args .y) (now (args .s)) (args .place) (by-w .w .given .0 .0) (by-w .w .given .0 .1 .0)
+    (by-walk-operations .walk-operations .result) (by-walk-operations .walk-operations .ensures) (by-w .w .given .1) (c .if1 .taken)
 
 sub-if2 : tie.Need-sub-if2
 sub-if2 c = search needs
@@ -35,7 +36,9 @@ returns-2 c =
     let by-walk-operations = by-w .before .before in
     let entry = by-walk-operations .before .before in
     let args = entry .args in
-    judged-none (args .y) (now (args .s)) (args .place) (by-w .w .given .0 .0) (by-w .w .given .0 .1 .0) (by-walk-operations .walk-operations .result) (by-walk-operations .walk-operations .ensures) (by-w .w .given .1) (omega (arith, entry .pre .0 .bases, entry .pre .0 .qualities)) (c .if2 .taken)
+    judged-none (args .y) (now (args .s)) (args .place) (by-w .w .given .0 .0) (by-w .w .given .0 .1 .0)
+    (by-walk-operations .walk-operations .result) (by-walk-operations .walk-operations .ensures) (by-w .w .given .1)
+    (omega (arith, entry .pre .0 .bases, entry .pre .0 .qualities)) (c .if2 .taken)
 
 returns-3 : tie.Need-returns-3
 returns-3 c =
@@ -43,31 +46,35 @@ returns-3 c =
     let by-walk-operations = by-w .before .before in
     let entry = by-walk-operations .before .before in
     let args = entry .args in
-    judged-total (args .y) (now (args .s)) (args .place) (by-w .w .given .0 .0) (by-w .w .given .0 .1 .0) (by-walk-operations .walk-operations .result) (by-walk-operations .walk-operations .ensures) (by-w .w .given .1) (c .if3 .taken)
+    judged-total (args .y) (now (args .s)) (args .place) (by-w .w .given .0 .0) (by-w .w .given .0 .1 .0)
+    (by-walk-operations .walk-operations .result) (by-walk-operations .walk-operations .ensures) (by-w .w .given .1) (c .if3 .taken)
 
 returns-4 : tie.Need-returns-4
 returns-4 c =
     let by-walk-operations = c .before .before in
     let entry = by-walk-operations .before .before in
     let args = entry .args in
-    judged-as (args .y) (now (args .s)) (args .place) (by-walk-operations .walk-operations .result) _ (by-walk-operations .walk-operations .ensures) (c .enum-told .given .1)
+    judged-as (args .y) (now (args .s)) (args .place) (by-walk-operations .walk-operations .result) _
+    (by-walk-operations .walk-operations .ensures) (c .enum-told .given .1)
 
 returns-5 : tie.Need-returns-5
 returns-5 c =
     let by-walk-operations = c .before .before in
     let entry = by-walk-operations .before .before in
     let args = entry .args in
-    judged-as (args .y) (now (args .s)) (args .place) (by-walk-operations .walk-operations .result) _ (by-walk-operations .walk-operations .ensures) (c .enum-told2 .given .1)
+    judged-as (args .y) (now (args .s)) (args .place) (by-walk-operations .walk-operations .result) _
+    (by-walk-operations .walk-operations .ensures) (c .enum-told2 .given .1)
 
 returns-6 : tie.Need-returns-6
 returns-6 c =
-    let by-if2 = c .before in
-    let by-if1 = by-if2 .before in
+    let by-if1 = c .before .before in
     let by-w = by-if1 .before .before in
     let by-walk-operations = by-w .before .before in
     let entry = by-walk-operations .before .before in
     let args = entry .args in
-    judged-wrong (args .y) (now (args .s)) (args .place) (by-w .w .given .0 .0) (by-w .w .given .0 .1 .0) (by-walk-operations .walk-operations .result) (by-walk-operations .walk-operations .ensures) (by-w .w .given .1) (by-if1 .if1 .left) (omega (arith, entry .pre .0 .bases, entry .pre .0 .qualities)) (by-if2 .if2 .left) (c .if3 .left)
+    judged-wrong (args .y) (now (args .s)) (args .place) (by-w .w .given .0 .0) (by-w .w .given .0 .1 .0)
+    (by-walk-operations .walk-operations .result) (by-walk-operations .walk-operations .ensures) (by-w .w .given .1) (by-if1 .if1 .left)
+    (omega (arith, entry .pre .0 .bases, entry .pre .0 .qualities)) (c .before .if2 .left) (c .if3 .left)
 
 pub check-operations-spec : {M : Type 1} → statement M
 check-operations-spec =

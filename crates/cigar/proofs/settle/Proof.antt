@@ -1,4 +1,5 @@
--- `cigar::settle` meets its contract. Assumes nothing.
+-- `cigar::settle` meets its contract. The loop keeps: the cursor is at most at `end`, and stands for the same bases as the cursor given.
+-- The measure is the bytes of operations left. Assumes nothing.
 use native.Mathlib.Omega.{arith}
 use Prim.Native.Nat.{_-_, _≤_}
 use mathlib.Core.Path.{_≡_, ap}
@@ -28,11 +29,19 @@ sub-if2 c = omega arith
 
 returns : tie.Need-returns Inv-loop μ-loop
 returns c =
-    let b = c .before .before .before in
-    let a = b .before .before .args in
-    let cig = take (a .end) (now (a .s)) in
-    let e : length cig ≡ a .end = length-take-le (a .end) (now (a .s)) (b .before .before .pre .0) in
-    record { kept = b .loop .inv .1; within = omega (arith, e, b .loop .inv .0); done = λ h. ops-short cig (b .loop .cur .at) (omega (arith, e, c .if2 .taken)) }
+    let turn = c .before .before .before in
+    let entry = turn .before .before in
+    let args = entry .args in
+    let loop = turn .loop in
+    let s = now (args .s) in
+    let cig = take (args .end) s in
+    let e : length cig ≡ args .end = length-take-le (args .end) s (entry .pre .0) in
+    record {
+      kept = loop .inv .1;
+      within = omega (arith, e, loop .inv .0);
+      done = λ h. ops-short cig (loop .cur .at)
+          (omega (arith, e, c .if2 .taken));
+    }
 
 take-operation-requires : tie.Need-take-operation-requires Inv-loop μ-loop
 take-operation-requires c κs =
@@ -50,13 +59,18 @@ loop-less c =
 
 loop-again : tie.Need-loop-again Inv-loop μ-loop
 loop-again c =
-    let b = c .before .before .before .before in
-    let a = b .before .before .args in
-    let cig = take (a .end) (now (a .s)) in
-    let e : length cig ≡ a .end = length-take-le (a .end) (now (a .s)) (b .before .before .pre .0) in
+    let by-if1 = c .before .before in
+    let turn = by-if1 .before .before in
+    let entry = turn .before .before in
+    let args = entry .args in
+    let loop = turn .loop in
+    let s = now (args .s) in
+    let cig = take (args .end) s in
+    let e : length cig ≡ args .end = length-take-le (args .end) s (entry .pre .0) in
     rw (c .take-operation .ensures) (
-      omega (arith, took-past cig (b .loop .cur)),
-      kept-trans cig (a .c) (b .loop .cur) (tookOperation cig (b .loop .cur)) (b .loop .inv .1) (took-kept cig (b .loop .cur) (c .before .before .if1 .taken) (omega (arith, e))),
+      omega (arith, took-past cig (loop .cur)),
+      kept-trans cig (args .c) (loop .cur) (tookOperation cig (loop .cur)) (loop .inv .1)
+          (took-kept cig (loop .cur) (by-if1 .if1 .taken) (omega (arith, e))),
     )
 
 returns-2 : tie.Need-returns-2 Inv-loop μ-loop

@@ -39,7 +39,9 @@ returns c =
     let by-operation-at = by-run-len .before in
     let entry = by-operation-at .before .before in
     let args = entry .args in
-    took-as (now (args .s)) (args .end) (by-operation-at .operation-at .result) (args .c) (by-run-len .run-len .result) (by-read-len .read-len .result) (c .before .ref-len .result) (by-operation-at .operation-at .ensures .0) (by-run-len .run-len .ensures .0) (by-read-len .read-len .ensures .0) (c .before .ref-len .ensures .0) (entry .pre .1)
+    took-as (now (args .s)) (args .end) (by-operation-at .operation-at .result) (args .c) (by-run-len .run-len .result)
+    (by-read-len .read-len .result) (c .before .ref-len .result) (by-operation-at .operation-at .ensures .0)
+    (by-run-len .run-len .ensures .0) (by-read-len .read-len .ensures .0) (c .before .ref-len .ensures .0) (entry .pre .1)
 
 pub take-operation-spec : {M : Type 1} → statement M
 take-operation-spec =

@@ -1,4 +1,5 @@
--- `cigar::walk_operations` meets its contract. Assumes nothing.
+-- `cigar::walk_operations` meets its contract. The loop keeps: the operations from `at` on, with `read` and `reference` so far, give what all
+-- of them give, and each sum is at most 2^28 for each byte before `at`. The measure is the bytes left. Assumes nothing.
 use Prim.Native.Nat.{_-_}
 use denote.Ref.{now}
 use Rattle.cigar.proofs.JudgeLaws.{Walking, walking-start, walking-end, walking-code, walking-zero, walking-turn}
@@ -24,22 +25,23 @@ operation-at-requires c κs = omega arith
 
 returns : tie.Need-returns Inv-loop μ-loop
 returns c =
-    let by-operation-at = c .before in
-    let turn = by-operation-at .before .before in
+    let turn = c .before .before .before in
     let entry = turn .before .before in
     let args = entry .args in
     let loop = turn .loop in
-    walking-code (now (args .s)) (args .from) (args .end) (entry .pre .1) (loop .at) (loop .read) (loop .reference) (loop .inv) (by-operation-at .operation-at .result) (omega arith) (by-operation-at .operation-at .ensures .0) (c .if1 .taken)
+    walking-code (now (args .s)) (args .from) (args .end) (entry .pre .1) (loop .at) (loop .read) (loop .reference) (loop .inv)
+    (c .before .operation-at .result) (omega arith) (c .before .operation-at .ensures .0) (c .if1 .taken)
 
 returns-2 : tie.Need-returns-2 Inv-loop μ-loop
 returns-2 c =
-    let by-if1 = c .before in
-    let by-operation-at = by-if1 .before in
+    let by-operation-at = c .before .before in
     let turn = by-operation-at .before .before in
     let entry = turn .before .before in
     let args = entry .args in
     let loop = turn .loop in
-    walking-zero (now (args .s)) (args .from) (args .end) (entry .pre .1) (loop .at) (loop .read) (loop .reference) (loop .inv) (by-operation-at .operation-at .result) (omega arith) (by-operation-at .operation-at .ensures .0) (by-if1 .if1 .left) (c .if2 .taken)
+    walking-zero (now (args .s)) (args .from) (args .end) (entry .pre .1) (loop .at) (loop .read) (loop .reference) (loop .inv)
+    (by-operation-at .operation-at .result) (omega arith) (by-operation-at .operation-at .ensures .0) (c .before .if1 .left)
+    (c .if2 .taken)
 
 read-len-requires : tie.Need-read-len-requires Inv-loop μ-loop
 read-len-requires c κs = search needs
@@ -65,13 +67,17 @@ loop-less c = omega arith
 
 loop-again : tie.Need-loop-again Inv-loop μ-loop
 loop-again c =
-    let by-before = c .before .before in
-    let by-before′ = by-before .before in
-    let by-before′′ = by-before′ .before in
-    let by-before′′′ = by-before′′ .before .before in
-    let entry = by-before′′′ .before .before in
+    let by-if2 = c .before .before in
+    let by-if1 = by-if2 .before in
+    let by-operation-at = by-if1 .before in
+    let turn = by-operation-at .before .before in
+    let entry = turn .before .before in
     let args = entry .args in
-    walking-turn (now (args .s)) (args .from) (args .end) (entry .pre .1) (by-before′′′ .loop .at) (by-before′′′ .loop .read) (by-before′′′ .loop .reference) (by-before′′′ .loop .inv) (by-before′′ .operation-at .result) (omega arith) (by-before′′ .operation-at .ensures .0) (c .before .read-len .result) (c .ref-len .result) (by-before′′ .operation-at .ensures .1) (by-before′ .if1 .left) (by-before .if2 .left) (c .before .read-len .ensures) (c .ref-len .ensures)
+    let loop = turn .loop in
+    walking-turn (now (args .s)) (args .from) (args .end) (entry .pre .1) (loop .at) (loop .read) (loop .reference) (loop .inv)
+    (by-operation-at .operation-at .result) (omega arith) (by-operation-at .operation-at .ensures .0) (c .before .read-len .result)
+    (c .ref-len .result) (by-operation-at .operation-at .ensures .1) (by-if1 .if1 .left) (by-if2 .if2 .left)
+    (c .before .read-len .ensures) (c .ref-len .ensures)
 
 returns-3 : tie.Need-returns-3 Inv-loop μ-loop
 returns-3 c =

@@ -36,7 +36,17 @@ add-bases c = search needs
 
 returns-3 : tie.Need-returns-3
 unfolding checkOf
-returns-3 c = simp (← c .before .before .l-read-name .ensures, ← c .before .n-cigar-op .ensures, le-ltb _ _ (c .before .before .before .before .if1 .left), le-ltb _ _ (c .before .before .before .if2 .left), lt-ltb _ _ (c .if3 .taken))
+returns-3 c =
+    let by-l-read-name = c .before .before in
+    let by-if2 = by-l-read-name .before in
+    let by-if1 = by-if2 .before in
+    simp (
+      ← by-l-read-name .l-read-name .ensures,
+      ← c .before .n-cigar-op .ensures,
+      le-ltb _ _ (by-if1 .if1 .left),
+      le-ltb _ _ (by-if2 .if2 .left),
+      lt-ltb _ _ (c .if3 .taken),
+    )
 
 l-seq-requires : tie.Need-l-seq-requires
 l-seq-requires c κs = search needs
@@ -55,11 +65,39 @@ add-if4 c = search needs
 
 returns-4 : tie.Need-returns-4
 unfolding checkOf
-returns-4 c = simp (← c .before .before .before .before .l-read-name .ensures, ← c .before .before .before .n-cigar-op .ensures, ← c .before .l-seq .ensures, le-ltb _ _ (c .before .before .before .before .before .before .if1 .left), le-ltb _ _ (c .before .before .before .before .before .if2 .left), le-ltb _ _ (c .before .before .if3 .left), lt-ltb _ _ (c .if4 .taken))
+returns-4 c =
+    let by-if3 = c .before .before in
+    let by-n-cigar-op = by-if3 .before in
+    let by-l-read-name = by-n-cigar-op .before in
+    let by-if2 = by-l-read-name .before in
+    let by-if1 = by-if2 .before in
+    simp (
+      ← by-l-read-name .l-read-name .ensures,
+      ← by-n-cigar-op .n-cigar-op .ensures,
+      ← c .before .l-seq .ensures,
+      le-ltb _ _ (by-if1 .if1 .left),
+      le-ltb _ _ (by-if2 .if2 .left),
+      le-ltb _ _ (by-if3 .if3 .left),
+      lt-ltb _ _ (c .if4 .taken),
+    )
 
 returns-5 : tie.Need-returns-5
 unfolding checkOf
-returns-5 c = simp (← c .before .before .before .before .l-read-name .ensures, ← c .before .before .before .n-cigar-op .ensures, ← c .before .l-seq .ensures, le-ltb _ _ (c .before .before .before .before .before .before .if1 .left), le-ltb _ _ (c .before .before .before .before .before .if2 .left), le-ltb _ _ (c .before .before .if3 .left), le-ltb _ _ (c .if4 .left))
+returns-5 c =
+    let by-if3 = c .before .before in
+    let by-n-cigar-op = by-if3 .before in
+    let by-l-read-name = by-n-cigar-op .before in
+    let by-if2 = by-l-read-name .before in
+    let by-if1 = by-if2 .before in
+    simp (
+      ← by-l-read-name .l-read-name .ensures,
+      ← by-n-cigar-op .n-cigar-op .ensures,
+      ← c .before .l-seq .ensures,
+      le-ltb _ _ (by-if1 .if1 .left),
+      le-ltb _ _ (by-if2 .if2 .left),
+      le-ltb _ _ (by-if3 .if3 .left),
+      le-ltb _ _ (c .if4 .left),
+    )
 
 pub check-record-spec : {M : Type 1} → statement M
 check-record-spec =

@@ -25,7 +25,13 @@ part-result-end : tie.Need-part-result-end
 part-result-end c = search needs
 
 returns : tie.Need-returns
-returns c = let z : 32 ≡ 32 + (header (now (c .before .before .before .before .args .s)) .nameLength - 1) = omega (arith, (c .before .if1 .taken), (c .before .before .l-read-name .ensures)) in name-part (now (c .before .before .before .before .args .s)) 32 z
+returns c =
+    let by-l-read-name = c .before .before in
+    let entry = by-l-read-name .before .before in
+    let args = entry .args in
+    let s = now (args .s) in
+    let z : 32 ≡ 32 + (header s .nameLength - 1) = omega (arith, c .before .if1 .taken, by-l-read-name .l-read-name .ensures) in
+    name-part s 32 z
 
 sub-end : tie.Need-sub-end
 sub-end c = search needs
@@ -43,7 +49,10 @@ part-result-end-2 : tie.Need-part-result-end-2
 part-result-end-2 c = search needs
 
 returns-2 : tie.Need-returns-2
-returns-2 c = name-part (now (c .before .before .before .before .args .s)) _ (ap (λ (n : ℕ). 32 + (n - 1)) (c .before .before .l-read-name .ensures))
+returns-2 c =
+    let by-l-read-name = c .before .before in
+    let entry = by-l-read-name .before .before in
+    name-part (now (entry .args .s)) _ (ap (λ (n : ℕ). 32 + (n - 1)) (by-l-read-name .l-read-name .ensures))
 
 pub name-of-spec : {M : Type 1} → statement M
 name-of-spec =

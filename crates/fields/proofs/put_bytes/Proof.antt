@@ -1,4 +1,5 @@
--- `fields::put_bytes` meets its contract: what is stored so far, with what is left to store, is the whole. Assumes nothing.
+-- `fields::put_bytes` meets its contract. The loop keeps: what is left of the number, put from byte `i` on, gives what the whole gives, put into
+-- the bytes given, and their length stays. The measure is the bytes left to put. Assumes nothing.
 use Prim.Native.Nat.{_≤_, _+_, _-_}
 use mathlib.Core.Path.{_≡_, sym, _∙_}
 use native.Mathlib.Nat.{add-zero, sub-zero}

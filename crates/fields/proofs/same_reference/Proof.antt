@@ -11,21 +11,21 @@ use Rattle.fields.proofs.same_reference.Lts as lts
 use Rattle.fields.proofs.ref_id.Reads as ref-id-reads
 use Rattle.fields.proofs.same_id.Reads as same-id-reads
 
--- src/lib.rt:215:13
 ref-id-requires : tie.Need-ref-id-requires
 ref-id-requires c κs = search needs
 
--- src/lib.rt:215:24
 ref-id-requires-2 : tie.Need-ref-id-requires-2
 ref-id-requires-2 c κs = search needs
 
--- src/lib.rt:215:5
 same-id-requires : tie.Need-same-id-requires
 same-id-requires c κs = search needs
 
--- src/lib.rt:211:1
 returns : tie.Need-returns
-returns c = let f : SFits w32 (c .before .before .ref-id .result) = search needs in let g : SFits w32 (c .before .ref-id2 .result) = search needs in (rw (toZ-ofZ f, toZ-ofZ g, c .before .before .ref-id .ensures, c .before .ref-id2 .ensures) at (c .same-id .ensures))
+returns c =
+    let by-ref-id = c .before .before in
+    let f : SFits w32 (by-ref-id .ref-id .result) = search needs in
+    let g : SFits w32 (c .before .ref-id2 .result) = search needs in
+    (rw (toZ-ofZ f, toZ-ofZ g, by-ref-id .ref-id .ensures, c .before .ref-id2 .ensures) at (c .same-id .ensures))
 
 pub same-reference-spec : {M : Type 1} → statement M
 same-reference-spec =

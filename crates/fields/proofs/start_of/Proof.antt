@@ -11,15 +11,12 @@ use Rattle.fields.proofs.start_of.Lts as lts
 use Rattle.fields.proofs.place_of.Reads as place-of-reads
 use Rattle.fields.proofs.pos.Reads as pos-reads
 
--- src/lib.rt:207:14
 pos-requires : tie.Need-pos-requires
 pos-requires c κs = search needs
 
--- src/lib.rt:207:5
 place-of-requires : tie.Need-place-of-requires
 place-of-requires c κs = search needs
 
--- src/lib.rt:203:1
 returns : tie.Need-returns
 returns c = let f : SFits w32 (c .before .pos .result) = search needs in (rw (toZ-ofZ f) at (c .place-of .ensures)) ∙ ap placedOf (c .before .pos .ensures)
 

@@ -18,7 +18,12 @@ refused-requires : tie.Need-refused-requires
 refused-requires c κs = search needs
 
 returns : tie.Need-returns
-returns c = too-full (now (c .before .before .before .before .before .args .filed)) (now (c .before .before .before .before .before .args .out)) (c .before .before .before .before .before .args .stats) (sym (c .before .before .full .ensures) ∙ (c .before .if1 .taken)) (c .refused .result) (c .refused .ensures)
+returns c =
+    let by-full = c .before .before in
+    let entry = by-full .before .before .before in
+    let args = entry .args in
+    too-full (now (args .filed)) (now (args .out)) (args .stats) (sym (by-full .full .ensures) ∙ (c .before .if1 .taken))
+    (c .refused .result) (c .refused .ensures)
 
 slice-aggregate-cut : tie.Need-slice-aggregate-cut
 slice-aggregate-cut c = search needs
@@ -45,19 +50,51 @@ slice-aggregate-correct-ended : tie.Need-slice-aggregate-correct-ended
 slice-aggregate-correct-ended c = search needs
 
 correct-ended-requires : tie.Need-correct-ended-requires
-correct-ended-requires c κs = (found-at (now (c .before .before .before .before .before .before .before .before .before .before .before .before .args .filed)) _ (c .before .before .before .before .before .before .cut .result) _ (c .before .before .before .e2 .given .1) (c .before .before .before .before .before .before .cut .ensures .1), (sym (c .before .before .before .before .before .before .before .before .before .full .ensures) ∙ (c .before .before .before .before .before .before .before .before .if1 .left)))
+correct-ended-requires c κs =
+    let by-e2 = c .before .before .before in
+    let by-cut = by-e2 .before .before .before in
+    let by-if1 = by-cut .before .before in
+    let by-full = by-if1 .before in
+    let entry = by-full .before .before .before in (
+      found-at (now (entry .args .filed)) _ (by-cut .cut .result) _ (by-e2 .e2 .given .1) (by-cut .cut .ensures .1),
+      sym (by-full .full .ensures) ∙ (by-if1 .if1 .left),
+    )
 
 returns-2 : tie.Need-returns-2
-returns-2 c = broken (now (c .before .before .before .before .before .before .before .before .before .before .before .args .filed)) (now (c .before .before .before .before .before .before .before .before .before .before .before .args .out)) (c .before .before .before .before .before .before .before .before .before .before .before .args .stats) (sym (c .before .before .before .before .before .before .before .before .full .ensures) ∙ (c .before .before .before .before .before .before .before .if1 .left)) (c .before .before .before .before .before .cut .result) (c .before .before .before .before .before .cut .ensures .0) _ (c .before .before .e .given .1) (c .refused2 .result) (c .refused2 .ensures)
+returns-2 c =
+    let by-e = c .before .before in
+    let by-cut = by-e .before .before .before in
+    let by-if1 = by-cut .before .before in
+    let by-full = by-if1 .before in
+    let entry = by-full .before .before .before in
+    let args = entry .args in
+    broken (now (args .filed)) (now (args .out)) (args .stats) (sym (by-full .full .ensures) ∙ (by-if1 .if1 .left)) (by-cut .cut .result)
+    (by-cut .cut .ensures .0) _ (by-e .e .given .1) (c .refused2 .result) (c .refused2 .ensures)
 
 returns-3 : tie.Need-returns-3
-returns-3 c = missing (now (c .before .before .before .before .before .before .before .before .before .before .args .filed)) (now (c .before .before .before .before .before .before .before .before .before .before .args .out)) (c .before .before .before .before .before .before .before .before .before .before .args .stats) (sym (c .before .before .before .before .before .before .before .full .ensures) ∙ (c .before .before .before .before .before .before .if1 .left)) (c .before .before .before .before .cut .result) (c .before .before .before .before .cut .ensures .0) (c .before .enum-told .given .1) (c .refused3 .result) (c .refused3 .ensures)
+returns-3 c =
+    let by-cut = c .before .before .before .before in
+    let by-if1 = by-cut .before .before in
+    let by-full = by-if1 .before in
+    let entry = by-full .before .before .before in
+    let args = entry .args in
+    missing (now (args .filed)) (now (args .out)) (args .stats) (sym (by-full .full .ensures) ∙ (by-if1 .if1 .left)) (by-cut .cut .result)
+    (by-cut .cut .ensures .0) (c .before .enum-told .given .1) (c .refused3 .result) (c .refused3 .ensures)
 
 same-length : tie.Need-same-length
 same-length c = search needs
 
 returns-4 : tie.Need-returns-4
-returns-4 c = at (now (c .before .before .before .before .before .before .before .before .before .before .before .before .before .before .before .args .filed)) (now (c .before .before .before .before .before .before .before .before .before .before .before .before .before .before .before .args .out)) (c .before .before .before .before .before .before .before .before .before .before .before .before .before .before .before .args .stats) (sym (c .before .before .before .before .before .before .before .before .before .before .before .before .full .ensures) ∙ (c .before .before .before .before .before .before .before .before .before .before .before .if1 .left)) (c .before .before .before .before .before .before .before .before .before .cut .result) (c .before .before .before .before .before .before .before .before .before .cut .ensures .0) _ (c .before .before .before .before .before .before .e2 .given .1) _ (c .before .before .correct-ended .ensures)
+returns-4 c =
+    let by-correct-ended = c .before .before in
+    let by-e2 = by-correct-ended .before .before .before .before in
+    let by-cut = by-e2 .before .before .before in
+    let by-if1 = by-cut .before .before in
+    let by-full = by-if1 .before in
+    let entry = by-full .before .before .before in
+    let args = entry .args in
+    at (now (args .filed)) (now (args .out)) (args .stats) (sym (by-full .full .ensures) ∙ (by-if1 .if1 .left)) (by-cut .cut .result)
+    (by-cut .cut .ensures .0) _ (by-e2 .e2 .given .1) _ (by-correct-ended .correct-ended .ensures)
 
 pub correct-spec : {M : Type 1} → statement M
 correct-spec =

@@ -21,13 +21,22 @@ shared-slice-read-p : tie.Need-shared-slice-read-p
 shared-slice-read-p c = search needs
 
 sub-if1 : tie.Need-sub-if1
-sub-if1 c = omega (arith, (table-end (now (c .before .before .before .before .args .filed)) (now (c .before .before .before .before .args .begins)) (c .before .before .before .before .args .n) (c .before .before .before .before .pre .0)), (c .before .before .before .before .pre .0 .left))
+sub-if1 c =
+    let entry = c .before .before .before .before in
+    let args = entry .args in
+    omega (arith, table-end (now (args .filed)) (now (args .begins)) (args .n) (entry .pre .0), entry .pre .0 .left)
 
 refused-requires : tie.Need-refused-requires
 refused-requires c κs = search needs
 
 returns : tie.Need-returns
-returns c = not-fifty (now (c .before .before .before .before .before .before .args .filed)) (now (c .before .before .before .before .before .before .args .out)) (c .before .before .before .before .before .before .args .stats) (c .before .before .before .before .before .before .args .n) (getD (now (c .before .before .before .before .before .before .args .begins)) (c .before .before .before .before .before .before .args .n) 0) (table-end (now (c .before .before .before .before .before .before .args .filed)) (now (c .before .before .before .before .before .before .args .begins)) (c .before .before .before .before .before .before .args .n) (c .before .before .before .before .before .before .pre .0)) (λ z. (c .before .if1 .taken) (omega arith)) (c .refused .result) (c .refused .ensures)
+returns c =
+    let entry = c .before .before .before .before .before .before in
+    let args = entry .args in
+    let filed = now (args .filed) in
+    let begins = now (args .begins) in
+    not-fifty filed (now (args .out)) (args .stats) (args .n) (getD begins (args .n) 0) (table-end filed begins (args .n) (entry .pre .0))
+    (λ z. (c .before .if1 .taken) (omega arith)) (c .refused .result) (c .refused .ensures)
 
 read-requires : tie.Need-read-requires
 read-requires c κs = search needs
@@ -39,19 +48,58 @@ refused-requires-2 : tie.Need-refused-requires-2
 refused-requires-2 c κs = search needs
 
 returns-2 : tie.Need-returns-2
-returns-2 c = wrong-field (now (c .before .before .before .before .before .before .before .before .before .args .filed)) (now (c .before .before .before .before .before .before .before .before .before .args .out)) (c .before .before .before .before .before .before .before .before .before .args .stats) (c .before .before .before .before .before .before .before .before .before .args .n) (getD (now (c .before .before .before .before .before .before .before .before .before .args .begins)) (c .before .before .before .before .before .before .before .before .before .args .n) 0) (table-end (now (c .before .before .before .before .before .before .before .before .before .args .filed)) (now (c .before .before .before .before .before .before .before .before .before .args .begins)) (c .before .before .before .before .before .before .before .before .before .args .n) (c .before .before .before .before .before .before .before .before .before .pre .0)) (omega (arith, (table-end (now (c .before .before .before .before .before .before .before .before .before .args .filed)) (now (c .before .before .before .before .before .before .before .before .before .args .begins)) (c .before .before .before .before .before .before .before .before .before .args .n) (c .before .before .before .before .before .before .before .before .before .pre .0)), (c .before .before .before .before .before .before .before .before .before .pre .0 .left))) (c .before .before .before .read .result) (c .before .before .before .read .ensures) (sym (c .before .before .wrong .ensures) ∙ (c .before .if2 .taken)) (c .refused2 .result) (c .refused2 .ensures)
+returns-2 c =
+    let by-wrong = c .before .before in
+    let by-read = by-wrong .before in
+    let entry = by-read .before .before .before .before .before .before in
+    let args = entry .args in
+    let filed = now (args .filed) in
+    let begins = now (args .begins) in
+    let ends = table-end filed begins (args .n) (entry .pre .0) in
+    wrong-field filed (now (args .out)) (args .stats) (args .n) (getD begins (args .n) 0) ends (omega (arith, ends, entry .pre .0 .left))
+    (by-read .read .result) (by-read .read .ensures) (sym (by-wrong .wrong .ensures) ∙ (c .before .if2 .taken)) (c .refused2 .result)
+    (c .refused2 .ensures)
 
 returns-3 : tie.Need-returns-3
-returns-3 c = known (now (c .before .before .before .before .before .before .before .before .before .before .before .args .filed)) (now (c .before .before .before .before .before .before .before .before .before .before .before .args .out)) (c .before .before .before .before .before .before .before .before .before .before .before .args .stats) (c .before .before .before .before .before .before .before .before .before .before .before .args .n) (getD (now (c .before .before .before .before .before .before .before .before .before .before .before .args .begins)) (c .before .before .before .before .before .before .before .before .before .before .before .args .n) 0) (table-end (now (c .before .before .before .before .before .before .before .before .before .before .before .args .filed)) (now (c .before .before .before .before .before .before .before .before .before .before .before .args .begins)) (c .before .before .before .before .before .before .before .before .before .before .before .args .n) (c .before .before .before .before .before .before .before .before .before .before .before .pre .0)) (omega (arith, (table-end (now (c .before .before .before .before .before .before .before .before .before .before .before .args .filed)) (now (c .before .before .before .before .before .before .before .before .before .before .before .args .begins)) (c .before .before .before .before .before .before .before .before .before .before .before .args .n) (c .before .before .before .before .before .before .before .before .before .before .before .pre .0)), (c .before .before .before .before .before .before .before .before .before .before .before .pre .0 .left))) (c .before .before .before .before .before .read .result) (c .before .before .before .before .before .read .ensures) (sym (c .before .before .before .before .wrong .ensures) ∙ (c .before .before .before .if2 .left)) (c .before .if3 .taken)
+returns-3 c =
+    let by-if2 = c .before .before .before in
+    let by-wrong = by-if2 .before in
+    let by-read = by-wrong .before in
+    let entry = by-read .before .before .before .before .before .before in
+    let args = entry .args in
+    let filed = now (args .filed) in
+    let begins = now (args .begins) in
+    let ends = table-end filed begins (args .n) (entry .pre .0) in
+    known filed (now (args .out)) (args .stats) (args .n) (getD begins (args .n) 0) ends (omega (arith, ends, entry .pre .0 .left))
+    (by-read .read .result) (by-read .read .ensures) (sym (by-wrong .wrong .ensures) ∙ (by-if2 .if2 .left)) (c .before .if3 .taken)
 
 correct-raw-requires : tie.Need-correct-raw-requires
-correct-raw-requires c κs = ((c .before .before .before .before .before .before .before .before .before .before .before .pre .0), (table-end (now (c .before .before .before .before .before .before .before .before .before .before .before .args .filed)) (now (c .before .before .before .before .before .before .before .before .before .before .before .args .begins)) (c .before .before .before .before .before .before .before .before .before .before .before .args .n) (c .before .before .before .before .before .before .before .before .before .before .before .pre .0)), (omega (arith, (table-end (now (c .before .before .before .before .before .before .before .before .before .before .before .args .filed)) (now (c .before .before .before .before .before .before .before .before .before .before .before .args .begins)) (c .before .before .before .before .before .before .before .before .before .before .before .args .n) (c .before .before .before .before .before .before .before .before .before .before .before .pre .0)), (c .before .before .before .before .before .before .before .before .before .before .before .pre .0 .left))), (c .before .before .before .before .before .before .before .before .before .before .before .pre .1))
+correct-raw-requires c κs =
+    let entry = c .before .before .before .before .before .before .before .before .before .before .before in
+    let args = entry .args in
+    let filed = now (args .filed) in
+    let begins = now (args .begins) in
+    let ends = table-end filed begins (args .n) (entry .pre .0) in
+    (entry .pre .0, ends, omega (arith, ends, entry .pre .0 .left), entry .pre .1)
 
 same-length : tie.Need-same-length
 same-length c = search needs
 
 returns-4 : tie.Need-returns-4
-returns-4 c = raw (now (c .before .before .before .before .before .before .before .before .before .before .before .before .before .before .args .filed)) (now (c .before .before .before .before .before .before .before .before .before .before .before .before .before .before .args .out)) (c .before .before .before .before .before .before .before .before .before .before .before .before .before .before .args .stats) (c .before .before .before .before .before .before .before .before .before .before .before .before .before .before .args .n) (getD (now (c .before .before .before .before .before .before .before .before .before .before .before .before .before .before .args .begins)) (c .before .before .before .before .before .before .before .before .before .before .before .before .before .before .args .n) 0) (table-end (now (c .before .before .before .before .before .before .before .before .before .before .before .before .before .before .args .filed)) (now (c .before .before .before .before .before .before .before .before .before .before .before .before .before .before .args .begins)) (c .before .before .before .before .before .before .before .before .before .before .before .before .before .before .args .n) (c .before .before .before .before .before .before .before .before .before .before .before .before .before .before .pre .0)) (omega (arith, (table-end (now (c .before .before .before .before .before .before .before .before .before .before .before .before .before .before .args .filed)) (now (c .before .before .before .before .before .before .before .before .before .before .before .before .before .before .args .begins)) (c .before .before .before .before .before .before .before .before .before .before .before .before .before .before .args .n) (c .before .before .before .before .before .before .before .before .before .before .before .before .before .before .pre .0)), (c .before .before .before .before .before .before .before .before .before .before .before .before .before .before .pre .0 .left))) (c .before .before .before .before .before .before .before .before .read .result) (c .before .before .before .before .before .before .before .before .read .ensures) (sym (c .before .before .before .before .before .before .before .wrong .ensures) ∙ (c .before .before .before .before .before .before .if2 .left)) (c .before .before .before .before .if3 .left) _ (c .before .before .correct-raw .ensures)
+returns-4 c =
+    let by-correct-raw = c .before .before in
+    let by-if3 = by-correct-raw .before .before in
+    let by-if2 = by-if3 .before .before in
+    let by-wrong = by-if2 .before in
+    let by-read = by-wrong .before in
+    let entry = by-read .before .before .before .before .before .before in
+    let args = entry .args in
+    let filed = now (args .filed) in
+    let begins = now (args .begins) in
+    let ends = table-end filed begins (args .n) (entry .pre .0) in
+    raw filed (now (args .out)) (args .stats) (args .n) (getD begins (args .n) 0) ends (omega (arith, ends, entry .pre .0 .left))
+    (by-read .read .result) (by-read .read .ensures) (sym (by-wrong .wrong .ensures) ∙ (by-if2 .if2 .left)) (by-if3 .if3 .left) _
+    (by-correct-raw .correct-raw .ensures)
 
 pub correct-ended-spec : {M : Type 1} → statement M
 correct-ended-spec =

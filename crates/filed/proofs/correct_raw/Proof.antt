@@ -36,7 +36,8 @@ returns c =
     let by-by-number = c .before .before .before in
     let entry = by-by-number .before .before .before .before in
     let args = entry .args in
-    no-numbers (now (args .filed)) (now (args .out)) (args .stats) (args .p) (args .strategies) (by-by-number .by-number .result) (by-by-number .by-number .ensures) _ (c .before .enum-told .given .1) (c .refused .result) (c .refused .ensures)
+    no-numbers (now (args .filed)) (now (args .out)) (args .stats) (args .p) (args .strategies) (by-by-number .by-number .result)
+    (by-by-number .by-number .ensures) _ (c .before .enum-told .given .1) (c .refused .result) (c .refused .ensures)
 
 sub-find : tie.Need-sub-find
 sub-find c = search needs
@@ -95,7 +96,12 @@ returns-2 c =
     let by-by-number = by-numbered .before .before in
     let entry = by-by-number .before .before .before .before in
     let args = entry .args in
-    output-short (now (args .filed)) (now (args .out)) (args .stats) (args .p) (args .strategies) (by-by-number .by-number .result) (by-by-number .by-number .ensures) _ (by-numbered .numbered .given .1) (args .n) (front-whole (now (args .filed)) (now (args .begins)) (args .n) (args .p) (entry .pre .0) (entry .pre .1)) (by-judge-all .judge-all .result) (rw (front-part (now (args .filed)) (args .p)) at (by-judge-all .judge-all .ensures)) (by-enum-told2 .enum-told2 .given .1) (c .before .if1 .taken) (c .refused3 .result) (c .refused3 .ensures)
+    let filed = now (args .filed) in
+    output-short filed (now (args .out)) (args .stats) (args .p) (args .strategies) (by-by-number .by-number .result)
+    (by-by-number .by-number .ensures) _ (by-numbered .numbered .given .1) (args .n)
+    (front-whole filed (now (args .begins)) (args .n) (args .p) (entry .pre .0) (entry .pre .1)) (by-judge-all .judge-all .result)
+    (rw (front-part filed (args .p)) at (by-judge-all .judge-all .ensures)) (by-enum-told2 .enum-told2 .given .1)
+    (c .before .if1 .taken) (c .refused3 .result) (c .refused3 .ensures)
 
 slice-aggregate-write-filed : tie.Need-slice-aggregate-write-filed
 slice-aggregate-write-filed c = search needs
@@ -110,9 +116,11 @@ write-filed-requires c κs =
 written-requires : tie.Need-written-requires
 written-requires c κs =
     let by-write-filed = c .before .before in
-    let entry = by-write-filed .before .before .before .before .before .before .before .before .before .before .before .before .before .before .before .before .before .before .before .before in
+    let entry = by-write-filed .before .before .before .before .before .before .before .before .before .before .before .before .before
+    .before .before .before .before .before .before .before in
     let args = entry .args in
-    growth-adds _ (take (args .p) (now (args .filed))) (args .n) (args .stats) _ (entry .pre .0 .placed .few) (entry .pre .3) (by-write-filed .write-filed .ensures .stats)
+    growth-adds _ (take (args .p) (now (args .filed))) (args .n) (args .stats) _ (entry .pre .0 .placed .few) (entry .pre .3)
+    (by-write-filed .write-filed .ensures .stats)
 
 returns-3 : tie.Need-returns-3
 returns-3 c =
@@ -122,7 +130,12 @@ returns-3 c =
     let by-by-number = by-numbered .before .before in
     let entry = by-by-number .before .before .before .before in
     let args = entry .args in
-    pair-refused (now (args .filed)) (now (args .out)) (args .stats) (args .p) (args .strategies) (by-by-number .by-number .result) (by-by-number .by-number .ensures) _ (by-numbered .numbered .given .1) (args .n) (front-whole (now (args .filed)) (now (args .begins)) (args .n) (args .p) (entry .pre .0) (entry .pre .1)) (by-judge-all .judge-all .result) (rw (front-part (now (args .filed)) (args .p)) at (by-judge-all .judge-all .ensures)) _ (by-v .v .given .1) (c .refused2 .result) (c .refused2 .ensures)
+    let filed = now (args .filed) in
+    pair-refused filed (now (args .out)) (args .stats) (args .p) (args .strategies) (by-by-number .by-number .result)
+    (by-by-number .by-number .ensures) _ (by-numbered .numbered .given .1) (args .n)
+    (front-whole filed (now (args .begins)) (args .n) (args .p) (entry .pre .0) (entry .pre .1)) (by-judge-all .judge-all .result)
+    (rw (front-part filed (args .p)) at (by-judge-all .judge-all .ensures)) _ (by-v .v .given .1) (c .refused2 .result)
+    (c .refused2 .ensures)
 
 same-length : tie.Need-same-length
 same-length c = search needs
@@ -137,7 +150,13 @@ returns-4 c =
     let by-by-number = by-numbered .before .before in
     let entry = by-by-number .before .before .before .before in
     let args = entry .args in
-    all-written (now (args .filed)) (now (args .out)) (args .stats) (args .p) (args .strategies) (by-by-number .by-number .result) (by-by-number .by-number .ensures) _ (by-numbered .numbered .given .1) (args .n) (front-whole (now (args .filed)) (now (args .begins)) (args .n) (args .p) (entry .pre .0) (entry .pre .1)) (by-judge-all .judge-all .result) (rw (front-part (now (args .filed)) (args .p)) at (by-judge-all .judge-all .ensures)) (by-enum-told2 .enum-told2 .given .1) (omega (arith, by-if1 .if1 .left)) (by-write-filed .write-filed .result) _ (by-write-filed .write-filed .ensures) (c .written .result) (c .written .ensures)
+    let filed = now (args .filed) in
+    all-written filed (now (args .out)) (args .stats) (args .p) (args .strategies) (by-by-number .by-number .result)
+    (by-by-number .by-number .ensures) _ (by-numbered .numbered .given .1) (args .n)
+    (front-whole filed (now (args .begins)) (args .n) (args .p) (entry .pre .0) (entry .pre .1)) (by-judge-all .judge-all .result)
+    (rw (front-part filed (args .p)) at (by-judge-all .judge-all .ensures)) (by-enum-told2 .enum-told2 .given .1)
+    (omega (arith, by-if1 .if1 .left)) (by-write-filed .write-filed .result) _ (by-write-filed .write-filed .ensures)
+    (c .written .result) (c .written .ensures)
 
 pub correct-raw-spec : {M : Type 1} → statement M
 correct-raw-spec =

@@ -57,7 +57,14 @@ same-length : tie.Need-same-length
 same-length c = search needs
 
 returns : tie.Need-returns
-returns c = ap (λ (x : List ℕ). splice (now (c .before .before .before .before .before .before .before .before .before .before .before .before .before .before .args .out)) (c .before .before .before .before .before .before .before .before .before .before .before .before .before .before .args .p) (c .before .before .before .before .before .before .before .before .before .before .before .before .before .before .args .p + 50) x) ((c .before .before .copy2 .ensures) ∙ (c .before .before .before .before .before .before .stamp .ensures) ∙ ap (λ (x : List ℕ). stamped x (c .before .before .before .before .before .before .before .before .before .before .before .before .before .before .args .growth)) (c .before .before .before .before .before .before .before .before .before .copy .ensures))
+returns c =
+    let by-copy2 = c .before .before in
+    let by-stamp = by-copy2 .before .before .before .before in
+    let by-copy = by-stamp .before .before .before in
+    let entry = by-copy .before .before .before .before .before in
+    let args = entry .args in
+    ap (λ (x : List ℕ). splice (now (args .out)) (args .p) (args .p + 50) x)
+    ((by-copy2 .copy2 .ensures) ∙ (by-stamp .stamp .ensures) ∙ ap (λ (x : List ℕ). stamped x (args .growth)) (by-copy .copy .ensures))
 
 pub put-trailer-spec : {M : Type 1} → statement M
 put-trailer-spec =

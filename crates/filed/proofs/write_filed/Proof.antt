@@ -19,16 +19,39 @@ part-write-frames-end : tie.Need-part-write-frames-end
 part-write-frames-end c = search needs
 
 write-frames-requires : tie.Need-write-frames-requires
-write-frames-requires c κs = (front-placed (now (c .before .before .before .before .before .before .args .filed)) (now (c .before .before .before .before .before .before .args .begins)) (c .before .before .before .before .before .before .args .n) (c .before .before .before .before .before .before .args .p) (c .before .before .before .before .before .before .pre .0) (c .before .before .before .before .before .before .pre .1), rw (sym (front-part (now (c .before .before .before .before .before .before .args .filed)) (c .before .before .before .before .before .before .args .p))) at (c .before .before .before .before .before .before .pre .2), omega (arith, front-end (now (c .before .before .before .before .before .before .args .filed)) (now (c .before .before .before .before .before .before .args .begins)) (c .before .before .before .before .before .before .args .n) (c .before .before .before .before .before .before .args .p) (c .before .before .before .before .before .before .pre .0) (c .before .before .before .before .before .before .pre .1), (c .before .before .before .before .before .before .pre .3), (c .before .before .before .before .before .before .pre .4)))
+write-frames-requires c κs =
+    let entry = c .before .before .before .before .before .before in
+    let args = entry .args in
+    let filed = now (args .filed) in
+    let begins = now (args .begins) in (
+      front-placed filed begins (args .n) (args .p) (entry .pre .0) (entry .pre .1),
+      rw (sym (front-part filed (args .p))) at (entry .pre .2),
+      omega (arith, front-end filed begins (args .n) (args .p) (entry .pre .0) (entry .pre .1), entry .pre .3, entry .pre .4),
+    )
 
 put-trailer-requires : tie.Need-put-trailer-requires
-put-trailer-requires c κs = (omega arith, omega (arith, (c .before .before .before .before .before .before .before .before .before .before .before .pre .4), (c .before .before .before .before .write-frames .kept .1 .1 .1 .1 .1 .0)), final (now (c .before .before .before .before .before .before .before .before .before .before .before .args .filed)) (now (c .before .before .before .before .before .before .before .before .before .before .before .args .begins)) (c .before .before .before .before .before .before .before .before .before .before .before .args .n) (c .before .before .before .before .before .before .before .before .before .before .before .args .p) (c .before .before .before .before .before .before .before .before .before .before .before .pre .0) (c .before .before .before .before .before .before .before .before .before .before .before .pre .1) (c .before .before .before .before .before .before .before .before .before .before .before .pre .3) (c .before .before .before .before .before .before .before .before .before .before .before .args .w) (now (c .before .before .before .before .before .before .before .before .before .before .before .args .out)) _ (c .before .before .before .before .write-frames .result) (c .before .before .before .before .write-frames .ensures))
+put-trailer-requires c κs =
+    let by-write-frames = c .before .before .before .before in
+    let entry = by-write-frames .before .before .before .before .before .before .before in
+    let args = entry .args in (
+      omega arith,
+      omega (arith, entry .pre .4, by-write-frames .write-frames .kept .1 .1 .1 .1 .1 .0),
+      final (now (args .filed)) (now (args .begins)) (args .n) (args .p) (entry .pre .0) (entry .pre .1) (entry .pre .3) (args .w)
+          (now (args .out)) _ (by-write-frames .write-frames .result) (by-write-frames .write-frames .ensures),
+    )
 
 same-length : tie.Need-same-length
 same-length c = search needs
 
 returns : tie.Need-returns
-returns c = filed-to (now (c .before .before .before .before .before .before .before .before .before .before .before .before .before .before .args .filed)) (now (c .before .before .before .before .before .before .before .before .before .before .before .before .before .before .args .begins)) (c .before .before .before .before .before .before .before .before .before .before .before .before .before .before .args .n) (c .before .before .before .before .before .before .before .before .before .before .before .before .before .before .args .p) (c .before .before .before .before .before .before .before .before .before .before .before .before .before .before .pre .0) (c .before .before .before .before .before .before .before .before .before .before .before .before .before .before .pre .1) (c .before .before .before .before .before .before .before .before .before .before .before .before .before .before .pre .3) (c .before .before .before .before .before .before .before .before .before .before .before .before .before .before .args .w) (now (c .before .before .before .before .before .before .before .before .before .before .before .before .before .before .args .out)) _ (c .before .before .before .before .before .before .before .write-frames .result) (c .before .before .before .before .before .before .before .write-frames .ensures) _ (c .before .before .put-trailer .ensures)
+returns c =
+    let by-put-trailer = c .before .before in
+    let by-write-frames = by-put-trailer .before .before .before .before .before in
+    let entry = by-write-frames .before .before .before .before .before .before .before in
+    let args = entry .args in
+    filed-to (now (args .filed)) (now (args .begins)) (args .n) (args .p) (entry .pre .0) (entry .pre .1) (entry .pre .3) (args .w)
+    (now (args .out)) _ (by-write-frames .write-frames .result) (by-write-frames .write-frames .ensures) _
+    (by-put-trailer .put-trailer .ensures)
 
 pub write-filed-spec : {M : Type 1} → statement M
 write-filed-spec =

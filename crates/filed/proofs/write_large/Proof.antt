@@ -17,8 +17,15 @@ write-all-requires : tie.Need-write-all-requires
 write-all-requires c κs =
     let entry = c .before .before .before .before .before .before .before .before .before in
     let args = entry .args in
-    let pre = entry .pre in
-    (pre .0, pre .1, pre .2, short-enough (now (args .s)) (now (args .begins)) (args .n) (pre .0) _ (omega arith), short-enough (now (args .s)) (now (args .begins)) (args .n) (pre .0) _ (omega arith), pre .3)
+    let s = now (args .s) in
+    let begins = now (args .begins) in (
+      entry .pre .0,
+      entry .pre .1,
+      entry .pre .2,
+      short-enough s begins (args .n) (entry .pre .0) _ (omega arith),
+      short-enough s begins (args .n) (entry .pre .0) _ (omega arith),
+      entry .pre .3,
+    )
 
 same-length : tie.Need-same-length
 same-length c = search needs

@@ -1,4 +1,5 @@
--- `filed_ending::cut` meets its contract. Assumes nothing.
+-- `filed_ending::cut` meets its contract. The loop keeps: `begin` is where frame `k` begins, `begins` has the frames up to there and keeps its
+-- length, and from frame `k` on the group ends as the whole does. The measure is the frames that may still come. Assumes nothing.
 use mathlib.Core.Path.{_≡_, refl, sym, _∙_}
 use Prim.Native.Nat.{_-_}
 use lib.ListN.{length, length-set}
@@ -19,13 +20,19 @@ slice-write-begins : tie.Need-slice-write-begins Inv-loop μ-loop
 slice-write-begins c = omega arith
 
 loop-holds : tie.Need-loop-holds Inv-loop μ-loop
-loop-holds c = (going-start (now (c .before .before .args .s)) (now (c .before .before .args .begins)) (c .before .before .pre), refl)
+loop-holds c =
+    let entry = c .before .before in
+    let args = entry .args in
+    (going-start (now (args .s)) (now (args .begins)) (entry .pre), refl)
 
 zero-at-requires : tie.Need-zero-at-requires Inv-loop μ-loop
 zero-at-requires c κs = search needs
 
 same-length : tie.Need-same-length Inv-loop μ-loop
-same-length c = c .before .before .before .loop .inv .1 ∙ length-set (now (c .before .before .before .before .before .before .args .begins)) 0 0
+same-length c =
+    let turn = c .before .before .before in
+    let entry = turn .before .before .before in
+    turn .loop .inv .1 ∙ length-set (now (entry .args .begins)) 0 0
 
 returns : tie.Need-returns Inv-loop μ-loop
 returns c =
@@ -34,14 +41,23 @@ returns c =
     said-end (now (args .s)) (loop .begins) (loop .k) (loop .begin) (loop .inv .0) (sym (c .if1 .taken) ∙ c .before .zero-at .ensures)
 
 same-length-2 : tie.Need-same-length-2 Inv-loop μ-loop
-same-length-2 c = c .before .before .before .before .loop .inv .1 ∙ length-set (now (c .before .before .before .before .before .before .before .args .begins)) 0 0
+same-length-2 c =
+    let turn = c .before .before .before .before in
+    let entry = turn .before .before .before in
+    turn .loop .inv .1 ∙ length-set (now (entry .args .begins)) 0 0
 
 returns-2 : tie.Need-returns-2 Inv-loop μ-loop
 returns-2 c =
-    let args = c .before .before .before .before .before .before .before .args in
-    let loop = c .before .before .before .before .loop in
-    let size = sym (c .before .if1 .left) ∙ c .before .before .zero-at .ensures in
-    (said-many (now (args .s)) (loop .begins) (loop .k) (loop .begin) (loop .inv .0) (c .before .before .before .loop-test .taken) size (omega arith), omega arith)
+    let by-zero-at = c .before .before in
+    let by-loop-test = by-zero-at .before in
+    let turn = by-loop-test .before in
+    let entry = turn .before .before .before in
+    let loop = turn .loop in
+    let size = sym (c .before .if1 .left) ∙ by-zero-at .zero-at .ensures in (
+      said-many (now (entry .args .s)) (loop .begins) (loop .k) (loop .begin) (loop .inv .0) (by-loop-test .loop-test .taken) size
+          (omega arith),
+      omega arith,
+    )
 
 frame-at-requires : tie.Need-frame-at-requires Inv-loop μ-loop
 frame-at-requires c κs = search needs
@@ -50,15 +66,25 @@ enum-known-f : tie.Need-enum-known-f Inv-loop μ-loop
 enum-known-f c = search needs
 
 same-length-3 : tie.Need-same-length-3 Inv-loop μ-loop
-same-length-3 c = c .before .before .before .before .before .before .before .before .loop .inv .1 ∙ length-set (now (c .before .before .before .before .before .before .before .before .before .before .before .args .begins)) 0 0
+same-length-3 c =
+    let turn = c .before .before .before .before .before .before .before .before in
+    let entry = turn .before .before .before in
+    turn .loop .inv .1 ∙ length-set (now (entry .args .begins)) 0 0
 
 returns-3 : tie.Need-returns-3 Inv-loop μ-loop
 returns-3 c =
-    let args = c .before .before .before .before .before .before .before .before .before .before .before .args in
-    let loop = c .before .before .before .before .before .before .before .before .loop in
-    let size = sym (c .before .before .before .before .before .if1 .left) ∙ c .before .before .before .before .before .before .zero-at .ensures in
-    let frame = c .before .before .before .frame-at in
-    (said-refused (now (args .s)) (loop .begins) (loop .k) (loop .begin) (loop .inv .0) (c .before .before .before .before .before .before .before .loop-test .taken) size (omega arith) (frame .result) _ (frame .ensures) (c .before .f .given .1) _ refl, omega arith)
+    let by-frame-at = c .before .before .before in
+    let by-if1 = by-frame-at .before .before in
+    let by-zero-at = by-if1 .before in
+    let by-loop-test = by-zero-at .before in
+    let turn = by-loop-test .before in
+    let entry = turn .before .before .before in
+    let loop = turn .loop in
+    let size = sym (by-if1 .if1 .left) ∙ by-zero-at .zero-at .ensures in (
+      said-refused (now (entry .args .s)) (loop .begins) (loop .k) (loop .begin) (loop .inv .0) (by-loop-test .loop-test .taken) size
+          (omega arith) (by-frame-at .frame-at .result) _ (by-frame-at .frame-at .ensures) (c .before .f .given .1) _ refl,
+      omega arith,
+    )
 
 enum-known-f-2 : tie.Need-enum-known-f-2 Inv-loop μ-loop
 enum-known-f-2 c = search needs
@@ -77,11 +103,18 @@ loop-less c = search needs
 
 loop-again : tie.Need-loop-again Inv-loop μ-loop
 loop-again c =
-    let args = c .before .before .before .before .before .before .before .before .before .before .before .args in
-    let loop = c .before .before .before .before .before .before .before .before .loop in
-    let size = sym (c .before .before .before .before .before .if1 .left) ∙ c .before .before .before .before .before .before .zero-at .ensures in
-    let frame = c .before .before .before .frame-at in
-    (going-next (now (args .s)) (loop .begins) (loop .k) (loop .begin) (loop .inv .0) (c .before .before .before .before .before .before .before .loop-test .taken) size (omega arith) (frame .result) _ (frame .ensures) (c .before .f2 .given .1) _ refl, length-set (loop .begins) _ _ ∙ loop .inv .1)
+    let by-frame-at = c .before .before .before in
+    let by-if1 = by-frame-at .before .before in
+    let by-zero-at = by-if1 .before in
+    let by-loop-test = by-zero-at .before in
+    let turn = by-loop-test .before in
+    let entry = turn .before .before .before in
+    let loop = turn .loop in
+    let size = sym (by-if1 .if1 .left) ∙ by-zero-at .zero-at .ensures in (
+      going-next (now (entry .args .s)) (loop .begins) (loop .k) (loop .begin) (loop .inv .0) (by-loop-test .loop-test .taken) size
+          (omega arith) (by-frame-at .frame-at .result) _ (by-frame-at .frame-at .ensures) (c .before .f2 .given .1) _ refl,
+      length-set (loop .begins) _ _ ∙ loop .inv .1,
+    )
 
 same-length-4 : tie.Need-same-length-4 Inv-loop μ-loop
 same-length-4 c = c .before .loop .inv .1 ∙ length-set (now (c .before .before .before .before .args .begins)) 0 0

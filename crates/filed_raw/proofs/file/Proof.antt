@@ -17,8 +17,11 @@ enum-told-2 c = search needs
 
 returns : tie.Need-returns
 returns c =
-    let args = c .before .before .before .before .before .args in
-    numbers-wrong (args .agreement) (args .disagreement) (now (args .frames)) (now (args .out)) (c .before .before .by-number .result) (c .before .before .by-number .ensures) _ (c .enum-told2 .given .1)
+    let by-by-number = c .before .before in
+    let entry = by-by-number .before .before .before in
+    let args = entry .args in
+    numbers-wrong (args .agreement) (args .disagreement) (now (args .frames)) (now (args .out)) (by-by-number .by-number .result)
+    (by-by-number .by-number .ensures) _ (c .enum-told2 .given .1)
 
 slice-aggregate-cut : tie.Need-slice-aggregate-cut
 slice-aggregate-cut c = search needs
@@ -34,45 +37,82 @@ enum-known-framing-2 c = search needs
 
 returns-2 : tie.Need-returns-2
 returns-2 c =
-    let args = c .before .before .before .before .before .before .before .before .before .before .before .before .args in
-    room-short (args .agreement) (args .disagreement) (now (args .frames)) (now (args .out)) (c .before .before .before .before .before .before .before .before .before .by-number .result) (c .before .before .before .before .before .before .before .before .before .by-number .ensures) _ (c .before .before .before .before .before .before .before .enum-told .given .1) (c .before .before .before .before .before .cut .result) (c .before .before .before .before .before .cut .ensures .0) _ (c .before .before .framing2 .given .1) (c .if1 .taken)
+    let by-framing2 = c .before .before in
+    let by-cut = by-framing2 .before .before .before in
+    let by-enum-told = by-cut .before .before in
+    let by-by-number = by-enum-told .before .before in
+    let entry = by-by-number .before .before .before in
+    let args = entry .args in
+    room-short (args .agreement) (args .disagreement) (now (args .frames)) (now (args .out)) (by-by-number .by-number .result)
+    (by-by-number .by-number .ensures) _ (by-enum-told .enum-told .given .1) (by-cut .cut .result) (by-cut .cut .ensures .0) _
+    (by-framing2 .framing2 .given .1) (c .if1 .taken)
 
 mul-strategies : tie.Need-mul-strategies
 mul-strategies c =
-    let args = c .before .before .before .before .before .before .before .before .before .before .before .before .args in
-    let h = are-small (args .agreement) (args .disagreement) (c .before .before .before .before .before .before .before .before .before .by-number .result) (c .before .before .before .before .before .before .before .before .before .by-number .ensures) _ (c .before .before .before .before .before .before .before .enum-told .given .1) in
+    let by-enum-told = c .before .before .before .before .before .before .before in
+    let by-by-number = by-enum-told .before .before in
+    let entry = by-by-number .before .before .before in
+    let args = entry .args in
+    let h = are-small (args .agreement) (args .disagreement) (by-by-number .by-number .result) (by-by-number .by-number .ensures) _
+    (by-enum-told .enum-told .given .1) in
     omega (arith, h .0, h .1)
 
 add-strategies : tie.Need-add-strategies
 add-strategies c =
-    let args = c .before .before .before .before .before .before .before .before .before .before .before .before .args in
-    let h = are-small (args .agreement) (args .disagreement) (c .before .before .before .before .before .before .before .before .before .by-number .result) (c .before .before .before .before .before .before .before .before .before .by-number .ensures) _ (c .before .before .before .before .before .before .before .enum-told .given .1) in
+    let by-enum-told = c .before .before .before .before .before .before .before in
+    let by-by-number = by-enum-told .before .before in
+    let entry = by-by-number .before .before .before in
+    let args = entry .args in
+    let h = are-small (args .agreement) (args .disagreement) (by-by-number .by-number .result) (by-by-number .by-number .ensures) _
+    (by-enum-told .enum-told .given .1) in
     omega (arith, h .0, h .1)
 
 cast-strategies : tie.Need-cast-strategies
 cast-strategies c =
-    let args = c .before .before .before .before .before .before .before .before .before .before .before .before .args in
-    let h = are-small (args .agreement) (args .disagreement) (c .before .before .before .before .before .before .before .before .before .by-number .result) (c .before .before .before .before .before .before .before .before .before .by-number .ensures) _ (c .before .before .before .before .before .before .before .enum-told .given .1) in
+    let by-enum-told = c .before .before .before .before .before .before .before in
+    let by-by-number = by-enum-told .before .before in
+    let entry = by-by-number .before .before .before in
+    let args = entry .args in
+    let h = are-small (args .agreement) (args .disagreement) (by-by-number .by-number .result) (by-by-number .by-number .ensures) _
+    (by-enum-told .enum-told .given .1) in
     omega (arith, h .0, h .1)
 
 cast-raw : tie.Need-cast-raw
-cast-raw c = omega (arith, filled-few _ _ _ _ (c .before .before .before .before .before .before .cut .ensures .1) (c .before .before .before .framing2 .given .1))
+cast-raw c =
+    let by-framing2 = c .before .before .before in
+    let by-cut = by-framing2 .before .before .before in
+    omega (arith, filled-few _ _ _ _ (by-cut .cut .ensures .1) (by-framing2 .framing2 .given .1))
 
 raw-requires : tie.Need-raw-requires
 raw-requires c κs = search needs
 
 returns-3 : tie.Need-returns-3
 returns-3 c =
-    let args = c .before .before .before .before .before .before .before .before .before .before .before .args in
-    frames-wrong (args .agreement) (args .disagreement) (now (args .frames)) (now (args .out)) (c .before .before .before .before .before .before .before .before .by-number .result) (c .before .before .before .before .before .before .before .before .by-number .ensures) _ (c .before .before .before .before .before .before .enum-told .given .1) (c .before .before .before .before .cut .result) (c .before .before .before .before .cut .ensures .0) _ (c .before .framing .given .1)
+    let by-cut = c .before .before .before .before in
+    let by-enum-told = by-cut .before .before in
+    let by-by-number = by-enum-told .before .before in
+    let entry = by-by-number .before .before .before in
+    let args = entry .args in
+    frames-wrong (args .agreement) (args .disagreement) (now (args .frames)) (now (args .out)) (by-by-number .by-number .result)
+    (by-by-number .by-number .ensures) _ (by-enum-told .enum-told .given .1) (by-cut .cut .result) (by-cut .cut .ensures .0) _
+    (c .before .framing .given .1)
 
 same-length : tie.Need-same-length
 same-length c = search needs
 
 returns-4 : tie.Need-returns-4
 returns-4 c =
-    let args = c .before .before .before .before .before .before .before .before .before .before .before .before .before .before .before .before .args in
-    trailer-made (args .agreement) (args .disagreement) (now (args .frames)) (now (args .out)) (c .before .before .before .before .before .before .before .before .before .before .before .before .before .by-number .result) (c .before .before .before .before .before .before .before .before .before .before .before .before .before .by-number .ensures) _ (c .before .before .before .before .before .before .before .before .before .before .before .enum-told .given .1) (c .before .before .before .before .before .before .before .before .before .cut .result) (c .before .before .before .before .before .before .before .before .before .cut .ensures .0) _ (c .before .before .before .before .before .before .framing2 .given .1) (c .before .before .before .before .if1 .left) _ (c .before .before .raw .ensures)
+    let by-raw = c .before .before in
+    let by-if1 = by-raw .before .before in
+    let by-framing2 = by-if1 .before .before in
+    let by-cut = by-framing2 .before .before .before in
+    let by-enum-told = by-cut .before .before in
+    let by-by-number = by-enum-told .before .before in
+    let entry = by-by-number .before .before .before in
+    let args = entry .args in
+    trailer-made (args .agreement) (args .disagreement) (now (args .frames)) (now (args .out)) (by-by-number .by-number .result)
+    (by-by-number .by-number .ensures) _ (by-enum-told .enum-told .given .1) (by-cut .cut .result) (by-cut .cut .ensures .0) _
+    (by-framing2 .framing2 .given .1) (by-if1 .if1 .left) _ (by-raw .raw .ensures)
 
 pub file-spec : {M : Type 1} → statement M
 file-spec =

@@ -31,8 +31,13 @@ same-length c = search needs
 
 returns : tie.Need-returns
 returns c =
-    let args = c .before .before .before .before .before .before .before .before .before .before .before .before .args in
-    raw-made (args .strategies) (args .records) (args .distance) (now (args .t)) _ _ _ (c .before .before .before .before .before .before .before .before .before .put-u32 .ensures) (c .before .before .before .before .before .before .put-u64 .ensures) (c .before .before .copy .ensures .1)
+    let by-copy = c .before .before in
+    let by-put-u64 = by-copy .before .before .before .before in
+    let by-put-u32 = by-put-u64 .before .before .before in
+    let entry = by-put-u32 .before .before .before in
+    let args = entry .args in
+    raw-made (args .strategies) (args .records) (args .distance) (now (args .t)) _ _ _ (by-put-u32 .put-u32 .ensures)
+    (by-put-u64 .put-u64 .ensures) (by-copy .copy .ensures .1)
 
 pub raw-spec : {M : Type 1} → statement M
 raw-spec =

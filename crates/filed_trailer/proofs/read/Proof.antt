@@ -38,9 +38,11 @@ u64-at-requires c κs = search needs
 
 returns : tie.Need-returns
 returns c =
-    let s = now (c .before .before .before .before .before .before .args .s) in
-    let at = c .before .before .before .before .before .before .args .at in
-    rw (c .before .before .u32-at .ensures, c .before .counts-at .ensures, c .u64-at .ensures, one-byte s (at + 4), one-byte s (at + 5))
+    let by-u32-at = c .before .before in
+    let entry = by-u32-at .before .before .before .before in
+    let args = entry .args in
+    let s = now (args .s) in
+    rw (by-u32-at .u32-at .ensures, c .before .counts-at .ensures, c .u64-at .ensures, one-byte s (args .at + 4), one-byte s (args .at + 5))
 
 pub read-spec : {M : Type 1} → statement M
 read-spec =

@@ -14,7 +14,10 @@ put-counts-requires : tie.Need-put-counts-requires
 put-counts-requires c κs = omega (arith, length-set (now (c .before .before .args .t)) 4 1)
 
 same-length : tie.Need-same-length
-same-length c = c .before .before .put-counts .kept .0 ∙ length-set (now (c .before .before .before .before .before .args .t)) 4 1
+same-length c =
+    let by-put-counts = c .before .before in
+    let entry = by-put-counts .before .before .before in
+    by-put-counts .put-counts .kept .0 ∙ length-set (now (entry .args .t)) 4 1
 
 returns : tie.Need-returns
 returns c = search needs

@@ -82,7 +82,11 @@ tell-requires : tie.Need-tell-requires
 tell-requires c κs = search needs
 
 same-length-4 : tie.Need-same-length-4
-same-length-4 c = c .before .before .before .before .before .before .before .before .before .before .before .before .before .before .before .before .before .before .before .before .before .before .before .before .before .before .before .before .before .before .before .before .read-full .kept .1 .0
+same-length-4 c =
+    let by-read-full = c .before .before .before .before .before .before .before .before .before .before .before .before .before .before
+    .before .before .before .before .before .before .before .before .before .before .before .before .before .before .before
+    .before .before .before in
+    by-read-full .read-full .kept .1 .0
 
 same-length-5 : tie.Need-same-length-5
 same-length-5 c = search needs

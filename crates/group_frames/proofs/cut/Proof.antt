@@ -1,4 +1,5 @@
--- `group_frames::cut` meets its contract. Assumes nothing.
+-- `group_frames::cut` meets its contract. The loop keeps: `begin` is where frame `k` begins, `begins` has the frames up to there and keeps its
+-- length, and the frames from `k` on give what all of them give. The measure is the frames that may still come. Assumes nothing.
 use mathlib.Core.Path.{_≡_, refl, _∙_}
 use Prim.Native.Nat.{_-_}
 use lib.ListN.{length, length-set}
@@ -48,9 +49,15 @@ same-length-2 c =
 
 returns-2 : tie.Need-returns-2 Inv-loop μ-loop
 returns-2 c =
-    let args = c .before .before .before .before .before .before .before .before .before .args in
-    let loop = c .before .before .before .before .before .before .loop in
-    (said-refused (now (args .s)) (loop .begins) (loop .k) (loop .begin) (loop .inv .0) (c .before .before .before .before .before .loop-test .taken) (omega arith) (c .before .before .before .frame-at .result) _ (c .before .before .before .frame-at .ensures) (c .before .f .given .1) _ refl, omega arith)
+    let by-frame-at = c .before .before .before in
+    let by-loop-test = by-frame-at .before .before in
+    let turn = by-loop-test .before in
+    let entry = turn .before .before .before in
+    let loop = turn .loop in (
+      said-refused (now (entry .args .s)) (loop .begins) (loop .k) (loop .begin) (loop .inv .0) (by-loop-test .loop-test .taken)
+          (omega arith) (by-frame-at .frame-at .result) _ (by-frame-at .frame-at .ensures) (c .before .f .given .1) _ refl,
+      omega arith,
+    )
 
 enum-known-f-2 : tie.Need-enum-known-f-2 Inv-loop μ-loop
 enum-known-f-2 c = search needs
@@ -69,9 +76,15 @@ loop-less c = search needs
 
 loop-again : tie.Need-loop-again Inv-loop μ-loop
 loop-again c =
-    let args = c .before .before .before .before .before .before .before .before .before .args in
-    let loop = c .before .before .before .before .before .before .loop in
-    (going-next (now (args .s)) (loop .begins) (loop .k) (loop .begin) (loop .inv .0) (c .before .before .before .before .before .loop-test .taken) (omega arith) (c .before .before .before .frame-at .result) _ (c .before .before .before .frame-at .ensures) (c .before .f2 .given .1) _ refl, length-set (loop .begins) _ _ ∙ loop .inv .1)
+    let by-frame-at = c .before .before .before in
+    let by-loop-test = by-frame-at .before .before in
+    let turn = by-loop-test .before in
+    let entry = turn .before .before .before in
+    let loop = turn .loop in (
+      going-next (now (entry .args .s)) (loop .begins) (loop .k) (loop .begin) (loop .inv .0) (by-loop-test .loop-test .taken) (omega arith)
+          (by-frame-at .frame-at .result) _ (by-frame-at .frame-at .ensures) (c .before .f2 .given .1) _ refl,
+      length-set (loop .begins) _ _ ∙ loop .inv .1,
+    )
 
 same-length-3 : tie.Need-same-length-3 Inv-loop μ-loop
 same-length-3 c =

@@ -25,8 +25,11 @@ cast-size c = search needs
 
 returns-2 : tie.Need-returns-2
 returns-2 c =
-    let args = c .before .before .before .before .args in
-    frame-past (now (args .s)) (args .begin) (args .k) (omega arith) (c .before .before .if1 .left) (c .before .u32-at .result) (c .before .u32-at .ensures) (c .if2 .taken)
+    let by-if1 = c .before .before in
+    let entry = by-if1 .before .before in
+    let args = entry .args in
+    frame-past (now (args .s)) (args .begin) (args .k) (omega arith) (by-if1 .if1 .left) (c .before .u32-at .result)
+    (c .before .u32-at .ensures) (c .if2 .taken)
 
 add-start : tie.Need-add-start
 add-start c = search needs
@@ -54,13 +57,27 @@ enum-known-checked c = search needs
 
 returns-3 : tie.Need-returns-3
 returns-3 c =
-    let args = c .before .before .before .before .before .before .before .before .args in
-    frame-checked (now (args .s)) (args .begin) (args .k) (omega arith) (c .before .before .before .before .before .before .if1 .left) (c .before .before .before .before .before .u32-at .result) (c .before .before .before .before .before .u32-at .ensures) (c .before .before .before .before .if2 .left) (c .before .before .check-record .result) _ (c .before .before .check-record .ensures) (c .enum-told .given .1)
+    let by-check-record = c .before .before in
+    let by-if2 = by-check-record .before .before in
+    let by-u32-at = by-if2 .before in
+    let by-if1 = by-u32-at .before in
+    let entry = by-if1 .before .before in
+    let args = entry .args in
+    frame-checked (now (args .s)) (args .begin) (args .k) (omega arith) (by-if1 .if1 .left) (by-u32-at .u32-at .result)
+    (by-u32-at .u32-at .ensures) (by-if2 .if2 .left) (by-check-record .check-record .result) _ (by-check-record .check-record .ensures)
+    (c .enum-told .given .1)
 
 returns-4 : tie.Need-returns-4
 returns-4 c =
-    let args = c .before .before .before .before .before .before .before .before .before .args in
-    frame-checked (now (args .s)) (args .begin) (args .k) (omega arith) (c .before .before .before .before .before .before .before .if1 .left) (c .before .before .before .before .before .before .u32-at .result) (c .before .before .before .before .before .before .u32-at .ensures) (c .before .before .before .before .before .if2 .left) (c .before .before .before .check-record .result) _ (c .before .before .before .check-record .ensures) (c .before .checked .given .1)
+    let by-check-record = c .before .before .before in
+    let by-if2 = by-check-record .before .before in
+    let by-u32-at = by-if2 .before in
+    let by-if1 = by-u32-at .before in
+    let entry = by-if1 .before .before in
+    let args = entry .args in
+    frame-checked (now (args .s)) (args .begin) (args .k) (omega arith) (by-if1 .if1 .left) (by-u32-at .u32-at .result)
+    (by-u32-at .u32-at .ensures) (by-if2 .if2 .left) (by-check-record .check-record .result) _ (by-check-record .check-record .ensures)
+    (c .before .checked .given .1)
 
 pub frame-at-spec : {M : Type 1} → statement M
 frame-at-spec =

@@ -1,4 +1,5 @@
--- `group_names::digest` meets its contract. Assumes nothing.
+-- `group_names::digest` meets its contract. The loop keeps: the whole eights from byte `i` on, mixed into `h`, give what all of them give mixed
+-- into 0, and `h` is below 2^62. The measure is the bytes left. Assumes nothing.
 use Prim.Native.Nat.{ℕ, _+_, _-_, _/_, _<_, _≤_}
 use mathlib.Core.Path.{_≡_, sym, ap, _∙_}
 use native.Mathlib.Omega.{arith}
@@ -49,7 +50,14 @@ loop-again c =
     let turn = c .before .before .before in
     let entry = turn .before .before .before in
     let args = entry .args in
-    (omega arith, ap (λ (z : ℕ). mixed 8 z (now (args .x)) (turn .loop .i + 8) ((length (now (args .x)) - (turn .loop .i + 8)) / 8)) (c .mix .ensures .0) ∙ sym (mixed-next 8 (turn .loop .h) (c .before .u64-at .result) (turn .loop .i) _ _ (now (args .x)) (omega arith) (c .before .u64-at .ensures)) ∙ turn .loop .inv .1, c .mix .ensures .1)
+    let loop = turn .loop in
+    let x = now (args .x) in (
+      omega arith,
+      ap (λ (z : ℕ). mixed 8 z x (loop .i + 8) ((length x - (loop .i + 8)) / 8)) (c .mix .ensures .0)
+          ∙ sym (mixed-next 8 (loop .h) (c .before .u64-at .result) (loop .i) _ _ x (omega arith) (c .before .u64-at .ensures))
+          ∙ loop .inv .1,
+      c .mix .ensures .1,
+    )
 
 u64-at-requires-2 : tie.Need-u64-at-requires-2 Inv-loop μ-loop
 u64-at-requires-2 c κs = omega (arith, c .before .before .if1 .left)
@@ -62,7 +70,13 @@ returns-2 c =
     let turn = c .before .before .before in
     let by-if1 = turn .before in
     let entry = by-if1 .before .before in
-    (c .mix2 .ensures .0 ∙ digest-long (now (entry .args .x)) (turn .loop .h) (c .before .u64-at2 .result) (by-if1 .if1 .left) (sym (mixed-end 8 (turn .loop .h) (turn .loop .i) _ (now (entry .args .x)) (omega arith)) ∙ turn .loop .inv .1) (c .before .u64-at2 .ensures), c .mix2 .ensures .1)
+    let args = entry .args in
+    let loop = turn .loop in
+    let x = now (args .x) in (
+      c .mix2 .ensures .0 ∙ digest-long x (loop .h) (c .before .u64-at2 .result) (by-if1 .if1 .left)
+          (sym (mixed-end 8 (loop .h) (loop .i) _ x (omega arith)) ∙ loop .inv .1) (c .before .u64-at2 .ensures),
+      c .mix2 .ensures .1,
+    )
 
 pub digest-spec : {M : Type 1} → statement M
 digest-spec =

@@ -1,4 +1,5 @@
--- `group_names::digest_bytes` meets its contract. Assumes nothing.
+-- `group_names::digest_bytes` meets its contract. The loop keeps: the bytes from `i` on, mixed into `h`, give what all of them give mixed into 0,
+-- and `h` is below 2^62. The measure is the bytes left. Assumes nothing.
 use Prim.Native.Nat.{ℕ, _+_, _-_, _<_, _≤_}
 use mathlib.Core.Path.{_≡_, sym, ap, _∙_}
 use native.Mathlib.Omega.{arith}
@@ -39,7 +40,14 @@ loop-again c =
     let turn = c .before .before .before .before in
     let entry = turn .before .before in
     let args = entry .args in
-    (omega arith, ap (λ (z : ℕ). mixed 1 z (now (args .x)) (turn .loop .i + 1) (length (now (args .x)) - (turn .loop .i + 1))) (c .mix .ensures .0) ∙ sym (mixed-next 1 (turn .loop .h) (c .before .wide .result) (turn .loop .i) _ _ (now (args .x)) (omega arith) (c .before .wide .ensures ∙ one-byte (now (args .x)) (turn .loop .i))) ∙ turn .loop .inv .1, c .mix .ensures .1)
+    let loop = turn .loop in
+    let x = now (args .x) in (
+      omega arith,
+      ap (λ (z : ℕ). mixed 1 z x (loop .i + 1) (length x - (loop .i + 1))) (c .mix .ensures .0)
+          ∙ sym (mixed-next 1 (loop .h) (c .before .wide .result) (loop .i) _ _ x (omega arith)
+          (c .before .wide .ensures ∙ one-byte x (loop .i))) ∙ loop .inv .1,
+      c .mix .ensures .1,
+    )
 
 returns : tie.Need-returns Inv-loop μ-loop
 returns c =

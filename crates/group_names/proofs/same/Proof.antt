@@ -1,4 +1,5 @@
--- `group_names::same` meets its contract. Assumes nothing.
+-- `group_names::same` meets its contract. Both loops keep: the names are the same exactly where they are the same from byte `i` on. The measure
+-- is the bytes left. Assumes nothing.
 use Prim.Native.Nat.{_-_, _≤_}
 use mathlib.Core.Path.{_≡_, refl, sym, _∙_}
 use borrow.Author.Tests.{eq-eqb, ne-eqb}
@@ -24,7 +25,10 @@ abbrev μ-loop2 : tie.MeasureT-loop2
 μ-loop2 x y i₀ i = length x - i
 
 returns : tie.Need-returns Inv-loop μ-loop Inv-loop2 μ-loop2
-returns c = sym (other-length (now (c .before .before .before .args .x)) (now (c .before .before .before .args .y)) (c .if1 .taken))
+returns c =
+    let entry = c .before .before .before in
+    let args = entry .args in
+    sym (other-length (now (args .x)) (now (args .y)) (c .if1 .taken))
 
 loop-holds : tie.Need-loop-holds Inv-loop μ-loop Inv-loop2 μ-loop2
 loop-holds c = (search needs, refl)
@@ -39,7 +43,14 @@ u32-at-requires-2 : tie.Need-u32-at-requires-2 Inv-loop μ-loop Inv-loop2 μ-loo
 u32-at-requires-2 c κs = omega arith
 
 returns-2 : tie.Need-returns-2 Inv-loop μ-loop Inv-loop2 μ-loop2
-returns-2 c = sym (sym (c .before .before .before .before .loop .inv .1) ∙ other-words 4 (now (c .before .before .before .before .before .before .before .before .args .x)) (now (c .before .before .before .before .before .before .before .before .args .y)) (c .before .before .before .before .loop .i) (omega arith) (omega arith) (λ e. c .if2 .taken (c .before .before .u32-at .ensures ∙ e ∙ sym (c .before .u32-at2 .ensures))))
+returns-2 c =
+    let by-u32-at = c .before .before in
+    let turn = by-u32-at .before .before in
+    let entry = turn .before .before .before .before in
+    let args = entry .args in
+    let loop = turn .loop in
+    sym (sym (loop .inv .1) ∙ other-words 4 (now (args .x)) (now (args .y)) (loop .i) (omega arith) (omega arith)
+    (λ e. c .if2 .taken (by-u32-at .u32-at .ensures ∙ e ∙ sym (c .before .u32-at2 .ensures))))
 
 add-i : tie.Need-add-i Inv-loop μ-loop Inv-loop2 μ-loop2
 add-i c = omega arith
@@ -48,7 +59,20 @@ loop-less : tie.Need-loop-less Inv-loop μ-loop Inv-loop2 μ-loop2
 loop-less c = omega arith
 
 loop-again : tie.Need-loop-again Inv-loop μ-loop Inv-loop2 μ-loop2
-loop-again c = (omega arith, sym (equal-words 4 (now (c .before .before .before .before .before .before .before .before .args .x)) (now (c .before .before .before .before .before .before .before .before .args .y)) (c .before .before .before .before .loop .i) (omega arith) (omega arith) (λ k. omega (arith, c .before .before .before .before .before .before .before .shared-slice-known .given k)) (λ k. omega (arith, c .before .before .before .before .before .before .shared-slice-known2 .given k)) (sym (c .before .before .u32-at .ensures) ∙ c .if2 .left ∙ c .before .u32-at2 .ensures)) ∙ c .before .before .before .before .loop .inv .1)
+loop-again c =
+    let by-u32-at = c .before .before in
+    let turn = by-u32-at .before .before in
+    let by-shared-slice-known2 = turn .before .before in
+    let by-shared-slice-known = by-shared-slice-known2 .before in
+    let entry = by-shared-slice-known .before in
+    let args = entry .args in
+    let loop = turn .loop in (
+      omega arith,
+      sym (equal-words 4 (now (args .x)) (now (args .y)) (loop .i) (omega arith) (omega arith)
+          (λ k. omega (arith, by-shared-slice-known .shared-slice-known .given k))
+          (λ k. omega (arith, by-shared-slice-known2 .shared-slice-known2 .given k))
+          (sym (by-u32-at .u32-at .ensures) ∙ c .if2 .left ∙ c .before .u32-at2 .ensures)) ∙ loop .inv .1,
+    )
 
 loop2-holds : tie.Need-loop2-holds Inv-loop μ-loop Inv-loop2 μ-loop2
 loop2-holds c = (c .before .loop .inv .0, c .before .loop .inv .1)
@@ -60,7 +84,12 @@ shared-slice-read-if3-2 : tie.Need-shared-slice-read-if3-2 Inv-loop μ-loop Inv-
 shared-slice-read-if3-2 c = omega arith
 
 returns-3 : tie.Need-returns-3 Inv-loop μ-loop Inv-loop2 μ-loop2
-returns-3 c = sym (sym (c .before .before .before .before .loop2 .inv .1) ∙ step-same (now (c .before .before .before .before .before .before .before .before .before .before .args .x)) (now (c .before .before .before .before .before .before .before .before .before .before .args .y)) (c .before .before .before .before .loop2 .i) (omega arith) (omega arith) ∙ rw (ne-eqb _ _ (c .if3 .taken)))
+returns-3 c =
+    let turn = c .before .before .before .before in
+    let entry = turn .before .before .before .before .before .before in
+    let args = entry .args in
+    sym (sym (turn .loop2 .inv .1) ∙ step-same (now (args .x)) (now (args .y)) (turn .loop2 .i) (omega arith) (omega arith)
+    ∙ rw (ne-eqb _ _ (c .if3 .taken)))
 
 add-i-2 : tie.Need-add-i-2 Inv-loop μ-loop Inv-loop2 μ-loop2
 add-i-2 c = search needs
@@ -69,10 +98,20 @@ loop2-less : tie.Need-loop2-less Inv-loop μ-loop Inv-loop2 μ-loop2
 loop2-less c = omega arith
 
 loop2-again : tie.Need-loop2-again Inv-loop μ-loop Inv-loop2 μ-loop2
-loop2-again c = (omega arith, sym (rw (eq-eqb _ _ (c .if3 .left)) at (step-same (now (c .before .before .before .before .before .before .before .before .before .before .args .x)) (now (c .before .before .before .before .before .before .before .before .before .before .args .y)) (c .before .before .before .before .loop2 .i) (omega arith) (omega arith))) ∙ c .before .before .before .before .loop2 .inv .1)
+loop2-again c =
+    let turn = c .before .before .before .before in
+    let entry = turn .before .before .before .before .before .before in
+    let args = entry .args in (
+      omega arith,
+      sym (rw (eq-eqb _ _ (c .if3 .left)) at (step-same (now (args .x)) (now (args .y)) (turn .loop2 .i) (omega arith) (omega arith)))
+          ∙ turn .loop2 .inv .1,
+    )
 
 returns-4 : tie.Need-returns-4 Inv-loop μ-loop Inv-loop2 μ-loop2
-returns-4 c = rest-same (now (c .before .before .before .before .before .before .before .args .x)) (now (c .before .before .before .before .before .before .before .args .y)) (c .before .loop2 .i) (omega arith) (omega arith) ∙ c .before .loop2 .inv .1
+returns-4 c =
+    let entry = c .before .before .before .before .before .before .before in
+    let args = entry .args in
+    rest-same (now (args .x)) (now (args .y)) (c .before .loop2 .i) (omega arith) (omega arith) ∙ c .before .loop2 .inv .1
 
 pub same-spec : {M : Type 1} → statement M
 same-spec =

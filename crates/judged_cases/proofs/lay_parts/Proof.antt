@@ -1,4 +1,4 @@
--- `judged_cases::lay_parts` is safe: the quality is at most 10 for each base passed.
+-- `judged_cases::lay_parts` is safe. The loop keeps: the room keeps its length, and the quality is at most 10 for each base passed.
 use Prim.Native.Nat.{_≤_, _*_, _-_}
 use mathlib.Core.Path.{_≡_}
 use lib.ListN.{length}

@@ -1,4 +1,4 @@
--- `judged_cases::say_all_met` is safe, and ends after eight turns.
+-- `judged_cases::say_all_met` is safe, and ends after eight turns. The loop has nothing to keep.
 use Prim.Native.Nat.{_-_}
 use borrow.Author.Needs.{needs}
 use Rattle.judged_cases.proofs.say_all_met.Statement.{statement}

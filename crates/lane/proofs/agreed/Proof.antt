@@ -24,17 +24,17 @@ enum-told-3 c = search needs
 
 returns : tie.Need-returns
 returns c =
-    let by-enum-told = c .before in
-    let entry = by-enum-told .before .before in
+    let entry = c .before .before .before in
     let args = entry .args in
-    agreed-as (args .m) Agree.Consensus (args .a) (args .b) (c .capped .result) (c .capped .result) (by-enum-told .enum-told .given .1) (c .capped .ensures) (c .capped .ensures ∙ omega arith)
+    agreed-as (args .m) Agree.Consensus (args .a) (args .b) (c .capped .result) (c .capped .result) (c .before .enum-told .given .1)
+    (c .capped .ensures) (c .capped .ensures ∙ omega arith)
 
 returns-2 : tie.Need-returns-2
 returns-2 c =
-    let by-enum-told2 = c .before in
-    let entry = by-enum-told2 .before .before in
+    let entry = c .before .before .before in
     let args = entry .args in
-    agreed-as (args .m) Agree.MaxQual (args .a) (args .b) (c .larger .result) (c .larger .result) (by-enum-told2 .enum-told2 .given .1) (c .larger .ensures) (c .larger .ensures ∙ omega arith)
+    agreed-as (args .m) Agree.MaxQual (args .a) (args .b) (c .larger .result) (c .larger .result) (c .before .enum-told2 .given .1)
+    (c .larger .ensures) (c .larger .ensures ∙ omega arith)
 
 returns-3 : tie.Need-returns-3
 returns-3 c =

@@ -27,16 +27,17 @@ differs-requires c κs = search needs
 
 returns : tie.Need-returns
 returns c =
-    let by-choose3 = c .before in
-    let by-changed = by-choose3 .before in
+    let by-changed = c .before .before in
     let by-choose2 = by-changed .before in
     let by-choose = by-choose2 .before in
     let by-agreed = by-choose .before in
     let by-agrees = by-agreed .before in
     let entry = by-agrees .before in
     let args = entry .args in
-    lane-as (args .m) (args .x) (args .a) (args .y) (args .b) (by-agrees .agrees .result) (by-agreed .agreed .result) (by-changed .changed .result) (by-choose .choose .result) (by-choose2 .choose2 .result) (by-choose3 .choose3 .result) (c .differs .result)
-    (by-agrees .agrees .ensures) (by-agreed .agreed .ensures) (by-changed .changed .ensures) (by-choose .choose .ensures) (by-choose2 .choose2 .ensures) (by-choose3 .choose3 .ensures) (c .differs .ensures)
+    lane-as (args .m) (args .x) (args .a) (args .y) (args .b) (by-agrees .agrees .result) (by-agreed .agreed .result)
+    (by-changed .changed .result) (by-choose .choose .result) (by-choose2 .choose2 .result) (c .before .choose3 .result)
+    (c .differs .result) (by-agrees .agrees .ensures) (by-agreed .agreed .ensures) (by-changed .changed .ensures)
+    (by-choose .choose .ensures) (by-choose2 .choose2 .ensures) (c .before .choose3 .ensures) (c .differs .ensures)
 
 pub lane-of-spec : {M : Type 1} → statement M
 lane-of-spec =

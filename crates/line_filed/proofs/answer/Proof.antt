@@ -13,7 +13,12 @@ same-length : tie.Need-same-length
 same-length c = search needs
 
 returns : tie.Need-returns
-returns c = too-long (now (c .before .before .before .before .before .before .before .before .args .input)) (now (c .before .before .before .before .before .before .before .before .args .filed)) (now (c .before .before .before .before .before .before .before .before .args .out)) _ _ (c .before .before .before .before .if1 .taken) (c .before .before .put-refusal .ensures)
+returns c =
+    let by-put-refusal = c .before .before in
+    let by-if1 = by-put-refusal .before .before in
+    let entry = by-if1 .before .before .before .before in
+    let args = entry .args in
+    too-long (now (args .input)) (now (args .filed)) (now (args .out)) _ _ (by-if1 .if1 .taken) (by-put-refusal .put-refusal .ensures)
 
 new-requires : tie.Need-new-requires
 new-requires c κs = search needs
@@ -46,7 +51,17 @@ same-length-3 : tie.Need-same-length-3
 same-length-3 c = search needs
 
 returns-2 : tie.Need-returns-2
-returns-2 c = answered (now (c .before .before .before .before .before .before .before .before .before .before .before .before .before .before .before .before .args .input)) (now (c .before .before .before .before .before .before .before .before .before .before .before .before .before .before .before .before .args .filed)) (c .before .before .before .before .before .before .before .before .before .before .before .before .if1 .left) (c .before .before .before .before .before .before .before .before .before .before .before .before .before .before .before .before .pre .1) (c .before .before .before .before .before .before .before .before .before .before .new .result) (c .before .before .before .before .before .before .before .before .before .before .new .ensures) (c .before .before .before .before .before .before .before .before .before .correct .result) _ (c .before .before .before .before .before .before .before .before .before .correct .ensures) (Refused _) (c .before .before .before .before .before .a .given .1) (now (c .before .before .before .before .before .before .before .before .before .before .before .before .before .before .before .before .args .out)) _ _ (c .before .before .put-refusal2 .ensures)
+returns-2 c =
+    let by-put-refusal2 = c .before .before in
+    let by-a = by-put-refusal2 .before .before .before in
+    let by-correct = by-a .before .before .before .before in
+    let by-new = by-correct .before in
+    let by-if1 = by-new .before .before in
+    let entry = by-if1 .before .before .before .before in
+    let args = entry .args in
+    answered (now (args .input)) (now (args .filed)) (by-if1 .if1 .left) (entry .pre .1) (by-new .new .result) (by-new .new .ensures)
+    (by-correct .correct .result) _ (by-correct .correct .ensures) (Refused _) (by-a .a .given .1) (now (args .out)) _ _
+    (by-put-refusal2 .put-refusal2 .ensures)
 
 same-length-4 : tie.Need-same-length-4
 same-length-4 c = search needs
@@ -55,7 +70,17 @@ same-length-5 : tie.Need-same-length-5
 same-length-5 c = search needs
 
 returns-3 : tie.Need-returns-3
-returns-3 c = answered (now (c .before .before .before .before .before .before .before .before .before .before .before .before .before .before .before .before .args .input)) (now (c .before .before .before .before .before .before .before .before .before .before .before .before .before .before .before .before .args .filed)) (c .before .before .before .before .before .before .before .before .before .before .before .before .if1 .left) (c .before .before .before .before .before .before .before .before .before .before .before .before .before .before .before .before .pre .1) (c .before .before .before .before .before .before .before .before .before .before .new .result) (c .before .before .before .before .before .before .before .before .before .before .new .ensures) (c .before .before .before .before .before .before .before .before .before .correct .result) _ (c .before .before .before .before .before .before .before .before .before .correct .ensures) (AlreadyDone _ _) (c .before .before .before .before .before .a2 .given .1) (now (c .before .before .before .before .before .before .before .before .before .before .before .before .before .before .before .before .args .out)) _ _ (c .before .before .put-already .ensures)
+returns-3 c =
+    let by-put-already = c .before .before in
+    let by-a2 = by-put-already .before .before .before in
+    let by-correct = by-a2 .before .before .before .before in
+    let by-new = by-correct .before in
+    let by-if1 = by-new .before .before in
+    let entry = by-if1 .before .before .before .before in
+    let args = entry .args in
+    answered (now (args .input)) (now (args .filed)) (by-if1 .if1 .left) (entry .pre .1) (by-new .new .result) (by-new .new .ensures)
+    (by-correct .correct .result) _ (by-correct .correct .ensures) (AlreadyDone _ _) (by-a2 .a2 .given .1) (now (args .out)) _ _
+    (by-put-already .put-already .ensures)
 
 same-length-6 : tie.Need-same-length-6
 same-length-6 c = search needs
@@ -64,7 +89,17 @@ same-length-7 : tie.Need-same-length-7
 same-length-7 c = search needs
 
 returns-4 : tie.Need-returns-4
-returns-4 c = answered (now (c .before .before .before .before .before .before .before .before .before .before .before .before .before .before .before .before .args .input)) (now (c .before .before .before .before .before .before .before .before .before .before .before .before .before .before .before .before .args .filed)) (c .before .before .before .before .before .before .before .before .before .before .before .before .if1 .left) (c .before .before .before .before .before .before .before .before .before .before .before .before .before .before .before .before .pre .1) (c .before .before .before .before .before .before .before .before .before .before .new .result) (c .before .before .before .before .before .before .before .before .before .before .new .ensures) (c .before .before .before .before .before .before .before .before .before .correct .result) _ (c .before .before .before .before .before .before .before .before .before .correct .ensures) (Corrected _ _ _ _) (c .before .before .before .before .before .a3 .given .1) (now (c .before .before .before .before .before .before .before .before .before .before .before .before .before .before .before .before .args .out)) _ _ (c .before .before .put-done .ensures)
+returns-4 c =
+    let by-put-done = c .before .before in
+    let by-a3 = by-put-done .before .before .before in
+    let by-correct = by-a3 .before .before .before .before in
+    let by-new = by-correct .before in
+    let by-if1 = by-new .before .before in
+    let entry = by-if1 .before .before .before .before in
+    let args = entry .args in
+    answered (now (args .input)) (now (args .filed)) (by-if1 .if1 .left) (entry .pre .1) (by-new .new .result) (by-new .new .ensures)
+    (by-correct .correct .result) _ (by-correct .correct .ensures) (Corrected _ _ _ _) (by-a3 .a3 .given .1) (now (args .out)) _ _
+    (by-put-done .put-done .ensures)
 
 pub answer-spec : {M : Type 1} → statement M
 answer-spec =

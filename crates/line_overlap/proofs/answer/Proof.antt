@@ -14,7 +14,13 @@ same-length : tie.Need-same-length
 same-length c = search needs
 
 returns : tie.Need-returns
-returns c = too-long (now (c .before .before .before .before .before .before .before .args .input)) (now (c .before .before .before .before .before .before .before .args .out)) _ _ (c .before .before .before .before .if1 .taken) (c .before .before .put-refusal .ensures .0) (c .before .before .put-refusal .ensures .1)
+returns c =
+    let by-put-refusal = c .before .before in
+    let by-if1 = by-put-refusal .before .before in
+    let entry = by-if1 .before .before .before in
+    let args = entry .args in
+    too-long (now (args .input)) (now (args .out)) _ _ (by-if1 .if1 .taken) (by-put-refusal .put-refusal .ensures .0)
+    (by-put-refusal .put-refusal .ensures .1)
 
 put-refusal-requires-2 : tie.Need-put-refusal-requires-2
 put-refusal-requires-2 c κs = search needs
@@ -23,7 +29,14 @@ same-length-2 : tie.Need-same-length-2
 same-length-2 c = search needs
 
 returns-2 : tie.Need-returns-2
-returns-2 c = no-digits (now (c .before .before .before .before .before .before .before .before .args .input)) (c .before .before .before .before .before .if1 .left) (now (c .before .before .before .before .before .before .before .before .args .out)) _ _ (c .before .before .before .before .if2 .taken) (c .before .before .put-refusal2 .ensures .0) (c .before .before .put-refusal2 .ensures .1)
+returns-2 c =
+    let by-put-refusal2 = c .before .before in
+    let by-if2 = by-put-refusal2 .before .before in
+    let by-if1 = by-if2 .before in
+    let entry = by-if1 .before .before .before in
+    let args = entry .args in
+    no-digits (now (args .input)) (by-if1 .if1 .left) (now (args .out)) _ _ (by-if2 .if2 .taken) (by-put-refusal2 .put-refusal2 .ensures .0)
+    (by-put-refusal2 .put-refusal2 .ensures .1)
 
 number-at-requires : tie.Need-number-at-requires
 number-at-requires c κs = search needs
@@ -62,7 +75,22 @@ same-length-4 : tie.Need-same-length-4
 same-length-4 c = search needs
 
 returns-3 : tie.Need-returns-3
-returns-3 c = refused-group (now (c .before .before .before .before .before .before .before .before .before .before .before .before .before .before .before .before .before .before .before .before .args .input)) (c .before .before .before .before .before .before .before .before .before .before .before .before .before .before .before .before .before .if1 .left) (c .before .before .before .before .before .before .before .before .before .before .before .before .before .before .number-at .result) (c .before .before .before .before .before .before .before .before .before .before .before .before .number-at2 .result) (c .before .before .before .before .before .before .before .before .before .before .before .before .before .before .number-at .ensures) (c .before .before .before .before .before .before .before .before .before .before .before .before .number-at2 .ensures) (c .before .before .before .before .before .before .before .before .before .before .before .before .before .before .before .before .if2 .left) (c .before .before .before .before .before .before .before .before .before .before .new .result) (c .before .before .before .before .before .before .before .before .before .before .new .ensures) (c .before .before .before .before .before .before .before .before .before .group .result) (c .before .before .before .before .before .before .before .before .before .group .last .0) (c .before .before .before .before .before .before .before .before .before .group .ensures) (c .before .before .before .before .before .before .before .before .before .group .kept .0) _ refl _ (c .before .before .before .before .before .a .given .1) (now (c .before .before .before .before .before .before .before .before .before .before .before .before .before .before .before .before .before .before .before .before .args .out)) _ _ (c .before .before .put-refusal3 .ensures .0) (c .before .before .put-refusal3 .ensures .1)
+returns-3 c =
+    let by-put-refusal3 = c .before .before in
+    let by-a = by-put-refusal3 .before .before .before in
+    let by-group = by-a .before .before .before .before in
+    let by-new = by-group .before in
+    let by-number-at2 = by-new .before .before in
+    let by-number-at = by-number-at2 .before .before in
+    let by-if2 = by-number-at .before .before in
+    let by-if1 = by-if2 .before in
+    let entry = by-if1 .before .before .before in
+    let args = entry .args in
+    refused-group (now (args .input)) (by-if1 .if1 .left) (by-number-at .number-at .result) (by-number-at2 .number-at2 .result)
+    (by-number-at .number-at .ensures) (by-number-at2 .number-at2 .ensures) (by-if2 .if2 .left) (by-new .new .result)
+    (by-new .new .ensures) (by-group .group .result) (by-group .group .last .0) (by-group .group .ensures) (by-group .group .kept .0) _
+    refl _ (by-a .a .given .1) (now (args .out)) _ _ (by-put-refusal3 .put-refusal3 .ensures .0)
+    (by-put-refusal3 .put-refusal3 .ensures .1)
 
 same-length-5 : tie.Need-same-length-5
 same-length-5 c = search needs
@@ -71,7 +99,21 @@ same-length-6 : tie.Need-same-length-6
 same-length-6 c = search needs
 
 returns-4 : tie.Need-returns-4
-returns-4 c = done-group (now (c .before .before .before .before .before .before .before .before .before .before .before .before .before .before .before .before .before .before .before .before .before .args .input)) (c .before .before .before .before .before .before .before .before .before .before .before .before .before .before .before .before .before .before .if1 .left) (c .before .before .before .before .before .before .before .before .before .before .before .before .before .before .before .number-at .result) (c .before .before .before .before .before .before .before .before .before .before .before .before .before .number-at2 .result) (c .before .before .before .before .before .before .before .before .before .before .before .before .before .before .before .number-at .ensures) (c .before .before .before .before .before .before .before .before .before .before .before .before .before .number-at2 .ensures) (c .before .before .before .before .before .before .before .before .before .before .before .before .before .before .before .before .before .if2 .left) (c .before .before .before .before .before .before .before .before .before .before .before .new .result) (c .before .before .before .before .before .before .before .before .before .before .before .new .ensures) (c .before .before .before .before .before .before .before .before .before .before .group .result) (c .before .before .before .before .before .before .before .before .before .before .group .last .0) (c .before .before .before .before .before .before .before .before .before .before .group .ensures) (c .before .before .before .before .before .before .before .before .before .before .group .kept .0) _ refl _ _ _ (c .before .before .before .before .before .before .a2 .given .1) (now (c .before .before .before .before .before .before .before .before .before .before .before .before .before .before .before .before .before .before .before .before .before .args .out)) _ _ (c .before .before .put-done .ensures .0) (c .before .before .put-done .ensures .1)
+returns-4 c =
+    let by-put-done = c .before .before in
+    let by-a2 = by-put-done .before .before .before .before in
+    let by-group = by-a2 .before .before .before .before in
+    let by-new = by-group .before in
+    let by-number-at2 = by-new .before .before in
+    let by-number-at = by-number-at2 .before .before in
+    let by-if2 = by-number-at .before .before in
+    let by-if1 = by-if2 .before in
+    let entry = by-if1 .before .before .before in
+    let args = entry .args in
+    done-group (now (args .input)) (by-if1 .if1 .left) (by-number-at .number-at .result) (by-number-at2 .number-at2 .result)
+    (by-number-at .number-at .ensures) (by-number-at2 .number-at2 .ensures) (by-if2 .if2 .left) (by-new .new .result)
+    (by-new .new .ensures) (by-group .group .result) (by-group .group .last .0) (by-group .group .ensures) (by-group .group .kept .0) _
+    refl _ _ _ (by-a2 .a2 .given .1) (now (args .out)) _ _ (by-put-done .put-done .ensures .0) (by-put-done .put-done .ensures .1)
 
 pub answer-spec : {M : Type 1} → statement M
 answer-spec =

@@ -24,7 +24,11 @@ same-length : tie.Need-same-length
 same-length c = search needs
 
 returns : tie.Need-returns
-returns c = front-told (c .before .before .before .before .before .before .before .args .n) (now (c .before .before .before .before .before .before .before .args .input)) _ (now (c .before .before .before .before .before .before .before .args .out)) _ _ _ (c .before .before .answer .kept .0) (c .before .before .answer .ensures)
+returns c =
+    let by-answer = c .before .before in
+    let entry = by-answer .before .before .before .before .before in
+    let args = entry .args in
+    front-told (args .n) (now (args .input)) _ (now (args .out)) _ _ _ (by-answer .answer .kept .0) (by-answer .answer .ensures)
 
 answer-requires-2 : tie.Need-answer-requires-2
 answer-requires-2 c κs = search needs
@@ -33,7 +37,11 @@ same-length-2 : tie.Need-same-length-2
 same-length-2 c = search needs
 
 returns-2 : tie.Need-returns-2
-returns-2 c = rw (take-all (c .before .before .before .before .before .before .before .args .n) (now (c .before .before .before .before .before .before .before .args .input)) (omega arith)) (c .before .before .answer2 .ensures)
+returns-2 c =
+    let by-answer2 = c .before .before in
+    let entry = by-answer2 .before .before .before .before .before in
+    let args = entry .args in
+    rw (take-all (args .n) (now (args .input)) (omega arith)) (by-answer2 .answer2 .ensures)
 
 pub overlap-spec : {M : Type 1} → statement M
 overlap-spec =

@@ -17,7 +17,10 @@ part-result-end : tie.Need-part-result-end
 part-result-end c = search needs
 
 returns : tie.Need-returns
-returns c = part-none (now (c .before .before .args .s)) (c .before .before .args .start) (c .before .before .args .n) (c .before .if1 .taken)
+returns c =
+    let entry = c .before .before in
+    let args = entry .args in
+    part-none (now (args .s)) (args .start) (args .n) (c .before .if1 .taken)
 
 sub-if2 : tie.Need-sub-if2
 sub-if2 c = search needs
@@ -35,7 +38,10 @@ part-result-end-2 : tie.Need-part-result-end-2
 part-result-end-2 c = search needs
 
 returns-2 : tie.Need-returns-2
-returns-2 c = part-some (now (c .before .before .before .args .s)) (c .before .before .before .args .start) (c .before .before .before .args .n)
+returns-2 c =
+    let entry = c .before .before .before in
+    let args = entry .args in
+    part-some (now (args .s)) (args .start) (args .n)
 
 sub-result-3 : tie.Need-sub-result-3
 sub-result-3 c = search needs
@@ -47,7 +53,10 @@ part-result-end-3 : tie.Need-part-result-end-3
 part-result-end-3 c = search needs
 
 returns-3 : tie.Need-returns-3
-returns-3 c = part-all (now (c .before .before .before .args .s)) (c .before .before .before .args .start) (c .before .before .before .args .n) (omega arith)
+returns-3 c =
+    let entry = c .before .before .before in
+    let args = entry .args in
+    part-all (now (args .s)) (args .start) (args .n) (omega arith)
 
 pub part-spec : {M : Type 1} → statement M
 part-spec =

@@ -27,7 +27,22 @@ same-length : tie.Need-same-length
 same-length c = search needs
 
 returns : tie.Need-returns
-returns c = (put-then (put-then (put-then (c .before .before .before .before .before .before .before .before .before .before .before .before .before .before .before .put-text .ensures) (c .before .before .before .before .before .before .before .before .before .before .before .put-number .ensures .0)) (c .before .before .before .before .before .before .before .put-counts .ensures .0)) (c .before .before .put-text2 .ensures), omega (arith, c .before .before .before .before .before .before .before .before .before .before .before .before .before .before .before .put-text .ensures .end, c .before .before .before .before .before .before .before .before .before .before .before .put-number .ensures .1, c .before .before .before .before .before .before .before .put-counts .ensures .1, c .before .before .put-text2 .ensures .end))
+returns c =
+    let by-put-text2 = c .before .before in
+    let by-put-counts = by-put-text2 .before .before .before .before .before in
+    let by-put-number = by-put-counts .before .before .before .before in
+    let by-put-text = by-put-number .before .before .before .before in
+    let two = put-then (by-put-text .put-text .ensures) (by-put-number .put-number .ensures .0) in
+    let three = put-then two (by-put-counts .put-counts .ensures .0) in (
+      put-then three (by-put-text2 .put-text2 .ensures),
+      omega (
+        arith,
+        by-put-text .put-text .ensures .end,
+        by-put-number .put-number .ensures .1,
+        by-put-counts .put-counts .ensures .1,
+        by-put-text2 .put-text2 .ensures .end,
+      ),
+    )
 
 pub put-already-spec : {M : Type 1} → statement M
 put-already-spec =

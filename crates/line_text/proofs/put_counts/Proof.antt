@@ -22,7 +22,22 @@ same-length : tie.Need-same-length
 same-length c = search needs
 
 returns : tie.Need-returns
-returns c = (put-then (put-then (put-then (c .before .before .before .before .before .before .before .before .before .before .before .before .before .before .put-number .ensures .0) (c .before .before .before .before .before .before .before .before .before .before .put-number2 .ensures .0)) (c .before .before .before .before .before .before .put-number3 .ensures .0)) (c .before .before .put-number4 .ensures .0), omega (arith, c .before .before .before .before .before .before .before .before .before .before .before .before .before .before .put-number .ensures .1, c .before .before .before .before .before .before .before .before .before .before .put-number2 .ensures .1, c .before .before .before .before .before .before .put-number3 .ensures .1, c .before .before .put-number4 .ensures .1))
+returns c =
+    let by-put-number4 = c .before .before in
+    let by-put-number3 = by-put-number4 .before .before .before .before in
+    let by-put-number2 = by-put-number3 .before .before .before .before in
+    let by-put-number = by-put-number2 .before .before .before .before in
+    let two = put-then (by-put-number .put-number .ensures .0) (by-put-number2 .put-number2 .ensures .0) in
+    let three = put-then two (by-put-number3 .put-number3 .ensures .0) in (
+      put-then three (by-put-number4 .put-number4 .ensures .0),
+      omega (
+        arith,
+        by-put-number .put-number .ensures .1,
+        by-put-number2 .put-number2 .ensures .1,
+        by-put-number3 .put-number3 .ensures .1,
+        by-put-number4 .put-number4 .ensures .1,
+      ),
+    )
 
 pub put-counts-spec : {M : Type 1} → statement M
 put-counts-spec =

@@ -34,7 +34,28 @@ same-length : tie.Need-same-length
 same-length c = search needs
 
 returns : tie.Need-returns
-returns c = (put-then (put-then (put-then (put-then (put-then (c .before .before .before .before .before .before .before .before .before .before .before .before .before .before .before .before .before .before .before .before .before .before .before .put-text .ensures) (c .before .before .before .before .before .before .before .before .before .before .before .before .before .before .before .before .before .before .before .put-number .ensures .0)) (c .before .before .before .before .before .before .before .before .before .before .before .before .before .before .before .put-number2 .ensures .0)) (c .before .before .before .before .before .before .before .before .before .before .before .put-number3 .ensures .0)) (c .before .before .before .before .before .before .before .put-counts .ensures .0)) (c .before .before .put-text2 .ensures), omega (arith, c .before .before .before .before .before .before .before .before .before .before .before .before .before .before .before .before .before .before .before .before .before .before .before .put-text .ensures .end, c .before .before .before .before .before .before .before .before .before .before .before .before .before .before .before .before .before .before .before .put-number .ensures .1, c .before .before .before .before .before .before .before .before .before .before .before .before .before .before .before .put-number2 .ensures .1, c .before .before .before .before .before .before .before .before .before .before .before .put-number3 .ensures .1, c .before .before .before .before .before .before .before .put-counts .ensures .1, c .before .before .put-text2 .ensures .end))
+returns c =
+    let by-put-text2 = c .before .before in
+    let by-put-counts = by-put-text2 .before .before .before .before .before in
+    let by-put-number3 = by-put-counts .before .before .before .before in
+    let by-put-number2 = by-put-number3 .before .before .before .before in
+    let by-put-number = by-put-number2 .before .before .before .before in
+    let by-put-text = by-put-number .before .before .before .before in
+    let two = put-then (by-put-text .put-text .ensures) (by-put-number .put-number .ensures .0) in
+    let three = put-then two (by-put-number2 .put-number2 .ensures .0) in
+    let four = put-then three (by-put-number3 .put-number3 .ensures .0) in
+    let five = put-then four (by-put-counts .put-counts .ensures .0) in (
+      put-then five (by-put-text2 .put-text2 .ensures),
+      omega (
+        arith,
+        by-put-text .put-text .ensures .end,
+        by-put-number .put-number .ensures .1,
+        by-put-number2 .put-number2 .ensures .1,
+        by-put-number3 .put-number3 .ensures .1,
+        by-put-counts .put-counts .ensures .1,
+        by-put-text2 .put-text2 .ensures .end,
+      ),
+    )
 
 pub put-done-spec : {M : Type 1} → statement M
 put-done-spec =

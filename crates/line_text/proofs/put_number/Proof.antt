@@ -25,16 +25,39 @@ slice-aggregate-put-text-2 c = search needs
 
 put-text-requires-2 : tie.Need-put-text-requires-2
 put-text-requires-2 c κs =
-    let args = c .before .before .before .before .before .before .before .before .before .before .args in
-    omega (arith, c .before .before .before .before .put-text .ensures .end, c .before .before .before .before .before .before .before .decimal .ensures .0 .1, (few-digits (args .n) (c .before .before .before .before .before .before .before .decimal .result) (omega arith) (c .before .before .before .before .before .before .before .decimal .ensures .1 .0)), c .before .before .before .before .put-text .kept .0)
+    let by-put-text = c .before .before .before .before in
+    let by-decimal = by-put-text .before .before .before in
+    let entry = by-decimal .before .before .before in
+    omega (
+      arith,
+      by-put-text .put-text .ensures .end,
+      by-decimal .decimal .ensures .0 .1,
+      few-digits (entry .args .n) (by-decimal .decimal .result) (omega arith) (by-decimal .decimal .ensures .1 .0),
+      by-put-text .put-text .kept .0,
+    )
 
 same-length : tie.Need-same-length
 same-length c = search needs
 
 returns : tie.Need-returns
 returns c =
-    let args = c .before .before .before .before .before .before .before .before .before .before .before .before .before .args in
-    (put-number (now (args .out)) _ _ (args .at) _ _ (c .before .before .before .before .before .before .before .before .before .before .decimal .result) (args .n) _ (c .before .before .before .before .before .before .before .put-text .ensures) (c .before .before .put-text2 .ensures) (few-digits (args .n) (c .before .before .before .before .before .before .before .before .before .before .decimal .result) (omega arith) (c .before .before .before .before .before .before .before .before .before .before .decimal .ensures .1 .0)) (c .before .before .before .before .before .before .before .before .before .before .decimal .ensures .1 .0) (c .before .before .before .before .before .before .before .before .before .before .decimal .ensures .1 .1), omega (arith, c .before .before .before .before .before .before .before .put-text .ensures .end, c .before .before .before .before .before .before .before .before .before .before .decimal .ensures .0 .1, c .before .before .put-text2 .ensures .end, (few-digits (args .n) (c .before .before .before .before .before .before .before .before .before .before .decimal .result) (omega arith) (c .before .before .before .before .before .before .before .before .before .before .decimal .ensures .1 .0))))
+    let by-put-text2 = c .before .before in
+    let by-put-text = by-put-text2 .before .before .before .before .before in
+    let by-decimal = by-put-text .before .before .before in
+    let entry = by-decimal .before .before .before in
+    let args = entry .args in
+    let few = few-digits (args .n) (by-decimal .decimal .result) (omega arith) (by-decimal .decimal .ensures .1 .0) in (
+      put-number (now (args .out)) _ _ (args .at) _ _ (by-decimal .decimal .result) (args .n) _ (by-put-text .put-text .ensures)
+          (by-put-text2 .put-text2 .ensures) few
+          (by-decimal .decimal .ensures .1 .0) (by-decimal .decimal .ensures .1 .1),
+      omega (
+        arith,
+        by-put-text .put-text .ensures .end,
+        by-decimal .decimal .ensures .0 .1,
+        by-put-text2 .put-text2 .ensures .end,
+        few,
+      ),
+    )
 
 pub put-number-spec : {M : Type 1} → statement M
 put-number-spec =

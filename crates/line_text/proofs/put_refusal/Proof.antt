@@ -40,7 +40,24 @@ same-length : tie.Need-same-length
 same-length c = search needs
 
 returns : tie.Need-returns
-returns c = (rw (c .before .before .before .before .before .before .before .before .before .before .before .before .before .number .ensures, c .before .before .before .before .before .before .before .before .place .ensures) at (put-then (put-then (put-then (c .before .before .before .before .before .before .before .before .before .before .before .before .before .before .before .before .before .put-text .ensures) (c .before .before .before .before .before .before .before .before .before .before .before .before .put-number .ensures .0)) (c .before .before .before .before .before .before .before .put-number2 .ensures .0)) (c .before .before .put-text2 .ensures)), omega (arith, c .before .before .before .before .before .before .before .before .before .before .before .before .before .before .before .before .before .put-text .ensures .end, c .before .before .before .before .before .before .before .before .before .before .before .before .put-number .ensures .1, c .before .before .before .before .before .before .before .put-number2 .ensures .1, c .before .before .put-text2 .ensures .end))
+returns c =
+    let by-put-text2 = c .before .before in
+    let by-put-number2 = by-put-text2 .before .before .before .before .before in
+    let by-place = by-put-number2 .before in
+    let by-put-number = by-place .before .before .before .before in
+    let by-number = by-put-number .before in
+    let by-put-text = by-number .before .before .before .before in
+    let two = put-then (by-put-text .put-text .ensures) (by-put-number .put-number .ensures .0) in
+    let three = put-then two (by-put-number2 .put-number2 .ensures .0) in (
+      rw (by-number .number .ensures, by-place .place .ensures) at (put-then three (by-put-text2 .put-text2 .ensures)),
+      omega (
+        arith,
+        by-put-text .put-text .ensures .end,
+        by-put-number .put-number .ensures .1,
+        by-put-number2 .put-number2 .ensures .1,
+        by-put-text2 .put-text2 .ensures .end,
+      ),
+    )
 
 pub put-refusal-spec : {M : Type 1} → statement M
 put-refusal-spec =

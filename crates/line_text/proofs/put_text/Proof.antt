@@ -1,4 +1,5 @@
--- `line_text::put_text` meets its contract. Assumes nothing.
+-- `line_text::put_text` meets its contract. The loop keeps: the first `i` bytes of the text stand at `at`, before them is what was there, and
+-- all behind them is as it was. The measure is the bytes of text left. Assumes nothing.
 use mathlib.Core.Path.{_≡_, refl, _∙_}
 use Prim.Native.Nat.{_+_, _-_, _≤_}
 use mathlib.Core.List.{_++_}
@@ -11,7 +12,9 @@ use Rattle.line_text.proofs.put_text.Statement.{statement}
 use Rattle.line_text.proofs.put_text.Tie as tie
 
 abbrev Inv-loop : tie.InvT-loop
-Inv-loop out₀ at text i₀ out i = (i ≤ length text) × (length out ≡ length out₀) × (take (at + i) out ≡ take at out₀ ++ take i text) × (drop (at + i) out ≡ drop (at + i) out₀)
+Inv-loop out₀ at text i₀ out i =
+    (i ≤ length text) × (length out ≡ length out₀) × (take (at + i) out ≡ take at out₀ ++ take i text)
+    × (drop (at + i) out ≡ drop (at + i) out₀)
 
 abbrev μ-loop : tie.MeasureT-loop
 μ-loop out₀ at text i₀ out i = length text - i
@@ -36,9 +39,17 @@ loop-less c = omega arith
 
 loop-again : tie.Need-loop-again Inv-loop μ-loop
 loop-again c =
-    let args = c .before .before .before .args in
-    let loop = c .before .before .loop in
-    (omega arith, length-set (loop .out) _ _ ∙ loop .inv .1, put-step (loop .out) (now (args .text)) (args .at) (loop .i) (take (args .at) (now (args .out))) (omega arith) (c .before .loop-test .taken) (loop .inv .2), rest-step (now (args .out)) (loop .out) (args .at) (loop .i) _ (loop .inv .3))
+    let turn = c .before .before in
+    let entry = turn .before in
+    let args = entry .args in
+    let loop = turn .loop in
+    let out = now (args .out) in (
+      omega arith,
+      length-set (loop .out) _ _ ∙ loop .inv .1,
+      put-step (loop .out) (now (args .text)) (args .at) (loop .i) (take (args .at) out) (omega arith) (c .before .loop-test .taken)
+          (loop .inv .2),
+      rest-step out (loop .out) (args .at) (loop .i) _ (loop .inv .3),
+    )
 
 add-result : tie.Need-add-result Inv-loop μ-loop
 add-result c = omega arith

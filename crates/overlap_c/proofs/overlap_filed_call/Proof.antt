@@ -14,7 +14,10 @@ code-requires : tie.Need-code-requires
 code-requires c κs = search needs
 
 returns : tie.Need-returns
-returns c = filed-slice-wrong (now (c .before .before .before .before .before .args .filed)) (now (c .before .before .before .before .before .args .out)) (now (c .before .before .before .before .before .args .counts)) _ (c .code .ensures) (c .before .if1 .taken)
+returns c =
+    let entry = c .before .before .before .before .before in
+    let args = entry .args in
+    filed-slice-wrong (now (args .filed)) (now (args .out)) (now (args .counts)) _ (c .code .ensures) (c .before .if1 .taken)
 
 counts-at-requires : tie.Need-counts-at-requires
 counts-at-requires c κs = search needs
@@ -44,7 +47,17 @@ same-length-2 : tie.Need-same-length-2
 same-length-2 c = search needs
 
 returns-2 : tie.Need-returns-2
-returns-2 c = filed-corrected (now (c .before .before .before .before .before .before .before .before .before .before .before .before .before .before .before .before .before .args .filed)) (now (c .before .before .before .before .before .before .before .before .before .before .before .before .before .before .before .before .before .args .out)) (now (c .before .before .before .before .before .before .before .before .before .before .before .before .before .before .before .before .before .args .counts)) (c .before .before .before .before .before .before .before .before .before .before .before .before .before .if1 .left) (c .before .before .before .before .before .before .before .before .before .before .before .counts-at .result) (c .before .before .before .before .before .before .before .before .before .before .before .counts-at .ensures) (ended (c .before .before .before .before .before .before .before .before .before .correct .result .answer) _ (c .before .before .before .before .before .before .before .before .before .correct .result .stats)) (c .before .before .before .before .before .before .before .before .before .correct .ensures) _ _ _ _ _ (c .before .before .before .before .before .enum-told .given .1) (c .before .before .put-counts .ensures)
+returns-2 c =
+    let by-put-counts = c .before .before in
+    let by-enum-told = by-put-counts .before .before .before in
+    let by-correct = by-enum-told .before .before .before .before in
+    let by-counts-at = by-correct .before .before in
+    let by-if1 = by-counts-at .before .before in
+    let entry = by-if1 .before .before .before .before in
+    let args = entry .args in
+    filed-corrected (now (args .filed)) (now (args .out)) (now (args .counts)) (by-if1 .if1 .left) (by-counts-at .counts-at .result)
+    (by-counts-at .counts-at .ensures) (ended (by-correct .correct .result .answer) _ (by-correct .correct .result .stats))
+    (by-correct .correct .ensures) _ _ _ _ _ (by-enum-told .enum-told .given .1) (by-put-counts .put-counts .ensures)
 
 same-length-3 : tie.Need-same-length-3
 same-length-3 c = search needs
@@ -53,7 +66,15 @@ same-length-4 : tie.Need-same-length-4
 same-length-4 c = search needs
 
 returns-3 : tie.Need-returns-3
-returns-3 c = filed-known (now (c .before .before .before .before .before .before .before .before .before .before .before .before .args .filed)) (now (c .before .before .before .before .before .before .before .before .before .before .before .before .args .out)) (now (c .before .before .before .before .before .before .before .before .before .before .before .before .args .counts)) (c .before .before .before .before .before .before .before .before .if1 .left) (c .before .before .before .before .before .before .counts-at .result) (c .before .before .before .before .before .before .counts-at .ensures) (ended (c .before .before .before .before .correct .result .answer) _ (c .before .before .before .before .correct .result .stats)) (c .before .before .before .before .correct .ensures) _ _ (c .enum-told2 .given .1)
+returns-3 c =
+    let by-correct = c .before .before .before .before in
+    let by-counts-at = by-correct .before .before in
+    let by-if1 = by-counts-at .before .before in
+    let entry = by-if1 .before .before .before .before in
+    let args = entry .args in
+    filed-known (now (args .filed)) (now (args .out)) (now (args .counts)) (by-if1 .if1 .left) (by-counts-at .counts-at .result)
+    (by-counts-at .counts-at .ensures) (ended (by-correct .correct .result .answer) _ (by-correct .correct .result .stats))
+    (by-correct .correct .ensures) _ _ (c .enum-told2 .given .1)
 
 same-length-5 : tie.Need-same-length-5
 same-length-5 c = search needs
@@ -62,7 +83,16 @@ same-length-6 : tie.Need-same-length-6
 same-length-6 c = search needs
 
 returns-4 : tie.Need-returns-4
-returns-4 c = filed-refused (now (c .before .before .before .before .before .before .before .before .before .before .before .before .before .before .args .filed)) (now (c .before .before .before .before .before .before .before .before .before .before .before .before .before .before .args .out)) (now (c .before .before .before .before .before .before .before .before .before .before .before .before .before .before .args .counts)) (c .before .before .before .before .before .before .before .before .before .before .if1 .left) (c .before .before .before .before .before .before .before .before .counts-at .result) (c .before .before .before .before .before .before .before .before .counts-at .ensures) (ended (c .before .before .before .before .before .before .correct .result .answer) _ (c .before .before .before .before .before .before .correct .result .stats)) (c .before .before .before .before .before .before .correct .ensures) _ _ (c .before .before .answer .given .1) (c .code2 .ensures)
+returns-4 c =
+    let by-answer = c .before .before in
+    let by-correct = by-answer .before .before .before .before in
+    let by-counts-at = by-correct .before .before in
+    let by-if1 = by-counts-at .before .before in
+    let entry = by-if1 .before .before .before .before in
+    let args = entry .args in
+    filed-refused (now (args .filed)) (now (args .out)) (now (args .counts)) (by-if1 .if1 .left) (by-counts-at .counts-at .result)
+    (by-counts-at .counts-at .ensures) (ended (by-correct .correct .result .answer) _ (by-correct .correct .result .stats))
+    (by-correct .correct .ensures) _ _ (by-answer .answer .given .1) (c .code2 .ensures)
 
 pub overlap-filed-call-spec : {M : Type 1} → statement M
 overlap-filed-call-spec =

@@ -23,13 +23,24 @@ same-length : tie.Need-same-length
 same-length c = search needs
 
 returns : tie.Need-returns
-returns c = trailer-made (now (c .before .before .before .before .before .before .before .before .args .frames)) (c .before .before .before .before .before .before .before .before .args .agreement) (c .before .before .before .before .before .before .before .before .args .disagreement) (now (c .before .before .before .before .before .before .before .before .args .trailer)) _ (c .before .before .before .before .file .result) (c .before .before .before .before .file .ensures) _ (c .enum-told .given .1)
+returns c =
+    let by-file = c .before .before .before .before in
+    let entry = by-file .before .before .before .before in
+    let args = entry .args in
+    trailer-made (now (args .frames)) (args .agreement) (args .disagreement) (now (args .trailer)) _ (by-file .file .result)
+    (by-file .file .ensures) _ (c .enum-told .given .1)
 
 same-length-2 : tie.Need-same-length-2
 same-length-2 c = search needs
 
 returns-2 : tie.Need-returns-2
-returns-2 c = trailer-refused (now (c .before .before .before .before .before .before .before .before .before .before .args .frames)) (c .before .before .before .before .before .before .before .before .before .before .args .agreement) (c .before .before .before .before .before .before .before .before .before .before .args .disagreement) (now (c .before .before .before .before .before .before .before .before .before .before .args .trailer)) _ (c .before .before .before .before .before .before .file .result) (c .before .before .before .before .before .before .file .ensures) _ _ (c .before .before .filing .given .1) (c .code .ensures)
+returns-2 c =
+    let by-filing = c .before .before in
+    let by-file = by-filing .before .before .before .before in
+    let entry = by-file .before .before .before .before in
+    let args = entry .args in
+    trailer-refused (now (args .frames)) (args .agreement) (args .disagreement) (now (args .trailer)) _ (by-file .file .result)
+    (by-file .file .ensures) _ _ (by-filing .filing .given .1) (c .code .ensures)
 
 pub overlap-trailer-call-spec : {M : Type 1} → statement M
 overlap-trailer-call-spec =

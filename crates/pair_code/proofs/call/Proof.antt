@@ -32,12 +32,12 @@ code-requires-2 c κs = search needs
 
 returns-2 : tie.Need-returns-2
 returns-2 c =
-    let by-enum-told = c .before in
-    let by-by-number = by-enum-told .before .before in
+    let by-by-number = c .before .before .before in
     let by-if1 = by-by-number .before in
     let entry = by-if1 .before .before .before .before in
     let args = entry .args in
-    numbers-wrong (now (args .first)) (now (args .second)) (args .agreement) (args .disagreement) (now (args .counts)) (by-if1 .if1 .left) (by-by-number .by-number .result) (by-by-number .by-number .ensures) _ _ (c .code2 .ensures) (by-enum-told .enum-told .given .1)
+    numbers-wrong (now (args .first)) (now (args .second)) (args .agreement) (args .disagreement) (now (args .counts)) (by-if1 .if1 .left)
+    (by-by-number .by-number .result) (by-by-number .by-number .ensures) _ _ (c .code2 .ensures) (c .before .enum-told .given .1)
 
 counts-at-requires : tie.Need-counts-at-requires
 counts-at-requires c κs = search needs
@@ -78,7 +78,11 @@ returns-3 c =
     let by-if1 = by-by-number .before in
     let entry = by-if1 .before .before .before .before in
     let args = entry .args in
-    called-none (now (args .counts)) (outcome (by-call .call .result .answer) (state _ _ (by-call .call .result .stats))) (c .enum-told2 .given .1) ∙ called-as (now (args .first)) (now (args .second)) (args .agreement) (args .disagreement) (now (args .counts)) (by-if1 .if1 .left) (by-by-number .by-number .result) (by-by-number .by-number .ensures) _ (by-counts-at .counts-at .result) _ (by-numbered .numbered .given .1) (by-counts-at .counts-at .ensures) (by-call .call .ensures)
+    let counts = now (args .counts) in
+    called-none counts (outcome (by-call .call .result .answer) (state _ _ (by-call .call .result .stats))) (c .enum-told2 .given .1)
+    ∙ called-as (now (args .first)) (now (args .second)) (args .agreement) (args .disagreement) counts (by-if1 .if1 .left)
+    (by-by-number .by-number .result) (by-by-number .by-number .ensures) _ (by-counts-at .counts-at .result) _
+    (by-numbered .numbered .given .1) (by-counts-at .counts-at .ensures) (by-call .call .ensures)
 
 same-length-4 : tie.Need-same-length-4
 same-length-4 c = search needs
@@ -100,7 +104,12 @@ returns-4 c =
     let by-if1 = by-by-number .before in
     let entry = by-if1 .before .before .before .before in
     let args = entry .args in
-    called-overlap (now (args .counts)) (outcome (by-call .call .result .answer) (state _ _ (by-call .call .result .stats))) _ (by-enum-told3 .enum-told3 .given .1) (by-put-counts .put-counts .ensures) ∙ called-as (now (args .first)) (now (args .second)) (args .agreement) (args .disagreement) (now (args .counts)) (by-if1 .if1 .left) (by-by-number .by-number .result) (by-by-number .by-number .ensures) _ (by-counts-at .counts-at .result) _ (by-numbered .numbered .given .1) (by-counts-at .counts-at .ensures) (by-call .call .ensures)
+    let counts = now (args .counts) in
+    called-overlap counts (outcome (by-call .call .result .answer) (state _ _ (by-call .call .result .stats))) _
+    (by-enum-told3 .enum-told3 .given .1) (by-put-counts .put-counts .ensures) ∙ called-as (now (args .first)) (now (args .second))
+    (args .agreement) (args .disagreement) counts (by-if1 .if1 .left) (by-by-number .by-number .result)
+    (by-by-number .by-number .ensures) _ (by-counts-at .counts-at .result) _ (by-numbered .numbered .given .1)
+    (by-counts-at .counts-at .ensures) (by-call .call .ensures)
 
 same-length-7 : tie.Need-same-length-7
 same-length-7 c = search needs
@@ -121,7 +130,11 @@ returns-5 c =
     let by-if1 = by-by-number .before in
     let entry = by-if1 .before .before .before .before in
     let args = entry .args in
-    called-refused (now (args .counts)) (outcome (by-call .call .result .answer) (state _ _ (by-call .call .result .stats))) _ _ (by-answer .answer .given .1) (c .code3 .ensures) ∙ called-as (now (args .first)) (now (args .second)) (args .agreement) (args .disagreement) (now (args .counts)) (by-if1 .if1 .left) (by-by-number .by-number .result) (by-by-number .by-number .ensures) _ (by-counts-at .counts-at .result) _ (by-numbered .numbered .given .1) (by-counts-at .counts-at .ensures) (by-call .call .ensures)
+    let counts = now (args .counts) in
+    called-refused counts (outcome (by-call .call .result .answer) (state _ _ (by-call .call .result .stats))) _ _
+    (by-answer .answer .given .1) (c .code3 .ensures) ∙ called-as (now (args .first)) (now (args .second)) (args .agreement)
+    (args .disagreement) counts (by-if1 .if1 .left) (by-by-number .by-number .result) (by-by-number .by-number .ensures) _
+    (by-counts-at .counts-at .result) _ (by-numbered .numbered .given .1) (by-counts-at .counts-at .ensures) (by-call .call .ensures)
 
 pub call-spec : {M : Type 1} → statement M
 call-spec =

@@ -29,22 +29,22 @@ unmapped-requires-2 c κs = search needs
 
 returns-2 : tie.Need-returns-2
 returns-2 c =
-    let by-unmapped2 = c .before in
-    let by-flags-of2 = by-unmapped2 .before in
+    let by-flags-of2 = c .before .before in
     let by-if1 = by-flags-of2 .before in
     let by-unmapped = by-if1 .before in
     let by-flags-of = by-unmapped .before in
     let entry = by-flags-of .before .before .before in
     let args = entry .args in
-    second-unmapped (now (args .first)) (now (args .second)) (rw (by-flags-of .flags-of .ensures) at (sym (by-unmapped .unmapped .ensures) ∙ by-if1 .if1 .left)) (rw (by-flags-of2 .flags-of2 .ensures) at (sym (by-unmapped2 .unmapped2 .ensures) ∙ c .if2 .taken))
+    second-unmapped (now (args .first)) (now (args .second))
+    (rw (by-flags-of .flags-of .ensures) at (sym (by-unmapped .unmapped .ensures) ∙ by-if1 .if1 .left))
+    (rw (by-flags-of2 .flags-of2 .ensures) at (sym (c .before .unmapped2 .ensures) ∙ c .if2 .taken))
 
 same-reference-requires : tie.Need-same-reference-requires
 same-reference-requires c κs = search needs
 
 returns-3 : tie.Need-returns-3
 returns-3 c =
-    let by-same-reference = c .before in
-    let by-if2 = by-same-reference .before in
+    let by-if2 = c .before .before in
     let by-unmapped2 = by-if2 .before in
     let by-flags-of2 = by-unmapped2 .before in
     let by-if1 = by-flags-of2 .before in
@@ -52,7 +52,10 @@ returns-3 c =
     let by-flags-of = by-unmapped .before in
     let entry = by-flags-of .before .before .before in
     let args = entry .args in
-    ids-differ (now (args .first)) (now (args .second)) (rw (by-flags-of .flags-of .ensures) at (sym (by-unmapped .unmapped .ensures) ∙ by-if1 .if1 .left)) (rw (by-flags-of2 .flags-of2 .ensures) at (sym (by-unmapped2 .unmapped2 .ensures) ∙ by-if2 .if2 .left)) (sym (by-same-reference .same-reference .ensures) ∙ not-true (by-same-reference .same-reference .result) (c .if3 .taken))
+    ids-differ (now (args .first)) (now (args .second))
+    (rw (by-flags-of .flags-of .ensures) at (sym (by-unmapped .unmapped .ensures) ∙ by-if1 .if1 .left))
+    (rw (by-flags-of2 .flags-of2 .ensures) at (sym (by-unmapped2 .unmapped2 .ensures) ∙ by-if2 .if2 .left))
+    (sym (c .before .same-reference .ensures) ∙ not-true (c .before .same-reference .result) (c .if3 .taken))
 
 start-of-requires : tie.Need-start-of-requires
 start-of-requires c κs = search needs
@@ -76,7 +79,11 @@ returns-4 c =
     let by-flags-of = by-unmapped .before in
     let entry = by-flags-of .before .before .before in
     let args = entry .args in
-    first-unplaced (now (args .first)) (now (args .second)) (rw (by-flags-of .flags-of .ensures) at (sym (by-unmapped .unmapped .ensures) ∙ by-if1 .if1 .left)) (rw (by-flags-of2 .flags-of2 .ensures) at (sym (by-unmapped2 .unmapped2 .ensures) ∙ by-if2 .if2 .left)) (sym (by-same-reference .same-reference .ensures) ∙ not-false (by-same-reference .same-reference .result) (by-if3 .if3 .left)) (sym (by-start-of .start-of .ensures) ∙ c .enum-told .given .1)
+    first-unplaced (now (args .first)) (now (args .second))
+    (rw (by-flags-of .flags-of .ensures) at (sym (by-unmapped .unmapped .ensures) ∙ by-if1 .if1 .left))
+    (rw (by-flags-of2 .flags-of2 .ensures) at (sym (by-unmapped2 .unmapped2 .ensures) ∙ by-if2 .if2 .left))
+    (sym (by-same-reference .same-reference .ensures) ∙ not-false (by-same-reference .same-reference .result) (by-if3 .if3 .left))
+    (sym (by-start-of .start-of .ensures) ∙ c .enum-told .given .1)
 
 start-of-requires-2 : tie.Need-start-of-requires-2
 start-of-requires-2 c κs = search needs
@@ -102,12 +109,16 @@ returns-5 c =
     let by-flags-of = by-unmapped .before in
     let entry = by-flags-of .before .before .before in
     let args = entry .args in
-    second-unplaced (now (args .first)) (now (args .second)) (rw (by-flags-of .flags-of .ensures) at (sym (by-unmapped .unmapped .ensures) ∙ by-if1 .if1 .left)) (rw (by-flags-of2 .flags-of2 .ensures) at (sym (by-unmapped2 .unmapped2 .ensures) ∙ by-if2 .if2 .left)) (sym (by-same-reference .same-reference .ensures) ∙ not-false (by-same-reference .same-reference .result) (by-if3 .if3 .left)) (by-at1 .at1 .given .0 .0) (sym (by-start-of .start-of .ensures) ∙ by-at1 .at1 .given .1) (sym (by-start-of2 .start-of2 .ensures) ∙ c .enum-told2 .given .1)
+    second-unplaced (now (args .first)) (now (args .second))
+    (rw (by-flags-of .flags-of .ensures) at (sym (by-unmapped .unmapped .ensures) ∙ by-if1 .if1 .left))
+    (rw (by-flags-of2 .flags-of2 .ensures) at (sym (by-unmapped2 .unmapped2 .ensures) ∙ by-if2 .if2 .left))
+    (sym (by-same-reference .same-reference .ensures) ∙ not-false (by-same-reference .same-reference .result) (by-if3 .if3 .left))
+    (by-at1 .at1 .given .0 .0) (sym (by-start-of .start-of .ensures) ∙ by-at1 .at1 .given .1)
+    (sym (by-start-of2 .start-of2 .ensures) ∙ c .enum-told2 .given .1)
 
 returns-6 : tie.Need-returns-6
 returns-6 c =
-    let by-at2 = c .before in
-    let by-start-of2 = by-at2 .before .before in
+    let by-start-of2 = c .before .before .before in
     let by-at1 = by-start-of2 .before .before in
     let by-start-of = by-at1 .before .before in
     let by-if3 = by-start-of .before in
@@ -120,7 +131,12 @@ returns-6 c =
     let by-flags-of = by-unmapped .before in
     let entry = by-flags-of .before .before .before in
     let args = entry .args in
-    both-placed (now (args .first)) (now (args .second)) (rw (by-flags-of .flags-of .ensures) at (sym (by-unmapped .unmapped .ensures) ∙ by-if1 .if1 .left)) (rw (by-flags-of2 .flags-of2 .ensures) at (sym (by-unmapped2 .unmapped2 .ensures) ∙ by-if2 .if2 .left)) (sym (by-same-reference .same-reference .ensures) ∙ not-false (by-same-reference .same-reference .result) (by-if3 .if3 .left)) (by-at1 .at1 .given .0 .0) (sym (by-start-of .start-of .ensures) ∙ by-at1 .at1 .given .1) (by-at2 .at2 .given .0 .0) (sym (by-start-of2 .start-of2 .ensures) ∙ by-at2 .at2 .given .1)
+    both-placed (now (args .first)) (now (args .second))
+    (rw (by-flags-of .flags-of .ensures) at (sym (by-unmapped .unmapped .ensures) ∙ by-if1 .if1 .left))
+    (rw (by-flags-of2 .flags-of2 .ensures) at (sym (by-unmapped2 .unmapped2 .ensures) ∙ by-if2 .if2 .left))
+    (sym (by-same-reference .same-reference .ensures) ∙ not-false (by-same-reference .same-reference .result) (by-if3 .if3 .left))
+    (by-at1 .at1 .given .0 .0) (sym (by-start-of .start-of .ensures) ∙ by-at1 .at1 .given .1) (c .before .at2 .given .0 .0)
+    (sym (by-start-of2 .start-of2 .ensures) ∙ c .before .at2 .given .1)
 
 pub place-spec : {M : Type 1} → statement M
 place-spec =

@@ -20,11 +20,12 @@ unspanned-requires c κs = search needs
 
 returns : tie.Need-returns
 returns c =
-    let by-enum-told = c .before in
-    let by-check-operations = by-enum-told .before .before in
+    let by-check-operations = c .before .before .before in
     let entry = by-check-operations .before .before in
     let args = entry .args in
-    c .unspanned .ensures ∙ (uses-refused (by-check-operations .check-operations .result) _ _ _ (by-enum-told .enum-told .given .1) ∙ span-as (args .y) (now (args .s)) (args .pos) (args .place) (by-check-operations .check-operations .result) _ (by-check-operations .check-operations .ensures) refl)
+    c .unspanned .ensures ∙ (uses-refused (by-check-operations .check-operations .result) _ _ _ (c .before .enum-told .given .1) ∙ span-as
+    (args .y) (now (args .s)) (args .pos) (args .place) (by-check-operations .check-operations .result) _
+    (by-check-operations .check-operations .ensures) refl)
 
 check-span-requires : tie.Need-check-span-requires
 check-span-requires c κs = search needs
@@ -35,7 +36,8 @@ returns-2 c =
     let by-check-operations = by-o .before .before in
     let entry = by-check-operations .before .before in
     let args = entry .args in
-    c .check-span .ensures ∙ span-as (args .y) (now (args .s)) (args .pos) (args .place) (by-check-operations .check-operations .result) _ (by-check-operations .check-operations .ensures) (by-o .o .given .1)
+    c .check-span .ensures ∙ span-as (args .y) (now (args .s)) (args .pos) (args .place) (by-check-operations .check-operations .result) _
+    (by-check-operations .check-operations .ensures) (by-o .o .given .1)
 
 pub span-of-spec : {M : Type 1} → statement M
 span-of-spec =

@@ -14,7 +14,11 @@ returns : tie.Need-returns
 returns c =
     let entry = c .before .before .before .before .before in
     let args = entry .args in
-    none-met (args .w) (args .p .start) (args .q .start) (now (args .first)) (now (args .second)) (args .g) (c .none-met .result .stats) (c .none-met .result .shared) (empty₁ (args .w .first) (args .w .second) (args .p .start) (args .q .start) (now (args .first)) (now (args .second)) (c .before .if1 .taken)) (c .none-met .ensures)
+    let first = now (args .first) in
+    let second = now (args .second) in
+    none-met (args .w) (args .p .start) (args .q .start) first second (args .g) (c .none-met .result .stats) (c .none-met .result .shared)
+    (empty₁ (args .w .first) (args .w .second) (args .p .start) (args .q .start) first second (c .before .if1 .taken))
+    (c .none-met .ensures)
 
 none-met-requires-2 : tie.Need-none-met-requires-2
 none-met-requires-2 c κs = search needs
@@ -23,7 +27,11 @@ returns-2 : tie.Need-returns-2
 returns-2 c =
     let entry = c .before .before .before .before .before .before .before in
     let args = entry .args in
-    none-met (args .w) (args .p .start) (args .q .start) (now (args .first)) (now (args .second)) (args .g) (c .none-met2 .result .stats) (c .none-met2 .result .shared) (empty₂ (args .w .first) (args .w .second) (args .p .start) (args .q .start) (now (args .first)) (now (args .second)) (c .before .if2 .taken)) (c .none-met2 .ensures)
+    let first = now (args .first) in
+    let second = now (args .second) in
+    none-met (args .w) (args .p .start) (args .q .start) first second (args .g) (c .none-met2 .result .stats) (c .none-met2 .result .shared)
+    (empty₂ (args .w .first) (args .w .second) (args .p .start) (args .q .start) first second (c .before .if2 .taken))
+    (c .none-met2 .ensures)
 
 none-met-requires-3 : tie.Need-none-met-requires-3
 none-met-requires-3 c κs = search needs
@@ -32,7 +40,11 @@ returns-3 : tie.Need-returns-3
 returns-3 c =
     let entry = c .before .before .before .before .before .before .before .before .before .before in
     let args = entry .args in
-    none-met (args .w) (args .p .start) (args .q .start) (now (args .first)) (now (args .second)) (args .g) (c .none-met3 .result .stats) (c .none-met3 .result .shared) (before (args .w .first) (args .w .second) (args .p) (args .q) (now (args .first)) (now (args .second)) (entry .pre .0) (c .before .if3 .taken)) (c .none-met3 .ensures)
+    let first = now (args .first) in
+    let second = now (args .second) in
+    none-met (args .w) (args .p .start) (args .q .start) first second (args .g) (c .none-met3 .result .stats) (c .none-met3 .result .shared)
+    (before (args .w .first) (args .w .second) (args .p) (args .q) first second (entry .pre .0) (c .before .if3 .taken))
+    (c .none-met3 .ensures)
 
 none-met-requires-4 : tie.Need-none-met-requires-4
 none-met-requires-4 c κs = search needs
@@ -41,7 +53,11 @@ returns-4 : tie.Need-returns-4
 returns-4 c =
     let entry = c .before .before .before .before .before .before .before .before .before .before .before .before .before in
     let args = entry .args in
-    none-met (args .w) (args .p .start) (args .q .start) (now (args .first)) (now (args .second)) (args .g) (c .none-met4 .result .stats) (c .none-met4 .result .shared) (behind (args .w .first) (args .w .second) (args .p) (args .q) (now (args .first)) (now (args .second)) (entry .pre .0) (c .before .if4 .taken)) (c .none-met4 .ensures)
+    let first = now (args .first) in
+    let second = now (args .second) in
+    none-met (args .w) (args .p .start) (args .q .start) first second (args .g) (c .none-met4 .result .stats) (c .none-met4 .result .shared)
+    (behind (args .w .first) (args .w .second) (args .p) (args .q) first second (entry .pre .0) (c .before .if4 .taken))
+    (c .none-met4 .ensures)
 
 merge-requires : tie.Need-merge-requires
 merge-requires c κs =
@@ -49,7 +65,14 @@ merge-requires c κs =
     let by-if1 = by-if2 .before .before in
     let entry = by-if1 .before .before .before .before in
     let args = entry .args in
-    let k = merge-asks (args .w .first) (args .w .second) (args .p) (args .q) (now (args .first)) (now (args .second)) (entry .pre .0) (omega (arith, by-if1 .if1 .left)) (omega (arith, by-if2 .if2 .left)) in (entry .pre .0 .first .lies, entry .pre .0 .second .lies, k .0, k .1, room-less (args .g) _ 131072 (few-bases _ (args .w .first) (entry .pre .0 .first)) (entry .pre .1))
+    let k = merge-asks (args .w .first) (args .w .second) (args .p) (args .q) (now (args .first)) (now (args .second)) (entry .pre .0)
+    (omega (arith, by-if1 .if1 .left)) (omega (arith, by-if2 .if2 .left)) in (
+      entry .pre .0 .first .lies,
+      entry .pre .0 .second .lies,
+      k .0,
+      k .1,
+      room-less (args .g) _ 131072 (few-bases _ (args .w .first) (entry .pre .0 .first)) (entry .pre .1),
+    )
 
 same-length : tie.Need-same-length
 same-length c = search needs

@@ -20,19 +20,26 @@ treat-requires c κs = search needs
 
 set-requires : tie.Need-set-requires
 set-requires c κs =
-    let by-treat = c .before in
-    let by-get2 = by-treat .before in
+    let by-get2 = c .before .before in
     let by-get = by-get2 .before .before in
-    let entry = by-get .before .before .before .before in
-    (entry .pre .0, entry .pre .2, (subst⁻¹ Fine (by-treat .treat .ensures) (fine (entry .args .w) _ _ _ _ (by-get .get .ensures .small) (by-get2 .get2 .ensures .small))) .base1)
+    let entry = by-get .before .before .before .before in (
+      entry .pre .0,
+      entry .pre .2,
+      (subst⁻¹ Fine (c .before .treat .ensures)
+          (fine (entry .args .w) _ _ _ _ (by-get .get .ensures .small) (by-get2 .get2 .ensures .small))) .base1,
+    )
 
 set-requires-2 : tie.Need-set-requires-2
 set-requires-2 c κs =
     let by-treat = c .before .before .before .before .before in
     let by-get2 = by-treat .before in
     let by-get = by-get2 .before .before in
-    let entry = by-get .before .before .before .before in
-    (entry .pre .1, entry .pre .3, (subst⁻¹ Fine (by-treat .treat .ensures) (fine (entry .args .w) _ _ _ _ (by-get .get .ensures .small) (by-get2 .get2 .ensures .small))) .base2)
+    let entry = by-get .before .before .before .before in (
+      entry .pre .1,
+      entry .pre .3,
+      (subst⁻¹ Fine (by-treat .treat .ensures)
+          (fine (entry .args .w) _ _ _ _ (by-get .get .ensures .small) (by-get2 .get2 .ensures .small))) .base2,
+    )
 
 plus-requires : tie.Need-plus-requires
 plus-requires c κs =
@@ -41,7 +48,8 @@ plus-requires c κs =
     let by-get = by-get2 .before .before in
     let entry = by-get .before .before .before .before in
     let args = entry .args in
-    room-adds (args .g) _ 2 (entry .pre .4) ((subst⁻¹ Fine (by-treat .treat .ensures) (fine (args .w) _ _ _ _ (by-get .get .ensures .small) (by-get2 .get2 .ensures .small))) .growth)
+    room-adds (args .g) _ 2 (entry .pre .4)
+    ((subst⁻¹ Fine (by-treat .treat .ensures) (fine (args .w) _ _ _ _ (by-get .get .ensures .small) (by-get2 .get2 .ensures .small))) .growth)
 
 same-length : tie.Need-same-length
 same-length c = search needs
@@ -58,7 +66,9 @@ returns c =
     let by-get = by-get2 .before .before in
     let entry = by-get .before .before .before .before in
     let args = entry .args in
-    step-as (job (args .w) (args .y) (args .z)) (now (args .first)) (now (args .second)) _ _ (args .g) _ (args .i .0) (args .j .0) (by-get .get .result) (by-get2 .get2 .result) (by-treat .treat .result) (by-get .get .ensures) (by-get2 .get2 .ensures) (by-treat .treat .ensures) (by-set .set .ensures) (by-set2 .set2 .ensures) (c .plus .ensures)
+    step-as (job (args .w) (args .y) (args .z)) (now (args .first)) (now (args .second)) _ _ (args .g) _ (args .i .0) (args .j .0)
+    (by-get .get .result) (by-get2 .get2 .result) (by-treat .treat .result) (by-get .get .ensures) (by-get2 .get2 .ensures)
+    (by-treat .treat .ensures) (by-set .set .ensures) (by-set2 .set2 .ensures) (c .plus .ensures)
 
 pub treat-one-spec : {M : Type 1} → statement M
 treat-one-spec =

@@ -1,4 +1,5 @@
--- `positions::treat_row` meets its contract: the positions left give from here, with the agreements beside, what all give from the start. Assumes nothing.
+-- `positions::treat_row` meets its contract. The loop keeps: the positions left give from here, with the agreements beside, what all give from
+-- the start, the records keep their lengths, and the counts have room for what is left. The measure is the positions left. Assumes nothing.
 use Prim.Native.Nat.{_-_}
 use mathlib.Core.Path.{sym, _∙_}
 use mathlib.Core.Bool.{_&&_}
@@ -22,10 +23,11 @@ abbrev μ-loop : tie.MeasureT-loop
 
 loop-holds : tie.Need-loop-holds Inv-loop μ-loop
 loop-holds c =
-    let by-slice-known = c .before in
-    let entry = by-slice-known .before in
+    let entry = c .before .before in
     let args = entry .args in
-    adding-start (args .w) (args .y) (args .z) (args .i .0) (args .j .0) (args .n) (state (now (args .first)) (now (args .second)) (args .g)) (entry .pre .4) (λ k q. omega (arith, by-slice-known .slice-known .given k)) (λ k q. omega (arith, c .slice-known2 .given k))
+    adding-start (args .w) (args .y) (args .z) (args .i .0) (args .j .0) (args .n)
+    (state (now (args .first)) (now (args .second)) (args .g)) (entry .pre .4) (λ k q. omega (arith, c .before .slice-known .given k))
+    (λ k q. omega (arith, c .slice-known2 .given k))
 
 add-t23 : tie.Need-add-t23 Inv-loop μ-loop
 add-t23 c = omega arith
@@ -59,8 +61,10 @@ loop-again c =
     let entry = turn .before .before .before in
     let args = entry .args in
     let loop = turn .loop in
-    adding-none (args .w) (args .y) (args .z) (args .i .0) (args .j .0) (args .n) (state (now (args .first)) (now (args .second)) (args .g)) (loop .t) (loop .first) (loop .second) (loop .h) (loop .agreeing) (loop .corrected)
-    (record { first = entry .pre .0; second = entry .pre .1 }) (entry .pre .2) (entry .pre .3) (by-loop-test .loop-test .taken) (loop .inv) (sym (by-get .get .ensures .base) ∙ c .if1 .taken)
+    adding-none (args .w) (args .y) (args .z) (args .i .0) (args .j .0) (args .n) (state (now (args .first)) (now (args .second)) (args .g))
+    (loop .t) (loop .first) (loop .second) (loop .h) (loop .agreeing) (loop .corrected)
+    (record { first = entry .pre .0; second = entry .pre .1 }) (entry .pre .2) (entry .pre .3) (by-loop-test .loop-test .taken)
+    (loop .inv) (sym (by-get .get .ensures .base) ∙ c .if1 .taken)
 
 agreed-requires : tie.Need-agreed-requires Inv-loop μ-loop
 agreed-requires c κs = search needs
@@ -98,14 +102,24 @@ wide-requires c κs = search needs
 
 add-corrected : tie.Need-add-corrected Inv-loop μ-loop
 add-corrected c =
-    let by-changed = c .before in
-    let by-agreed = by-changed .before .before .before in
+    let by-agreed = c .before .before .before .before in
     let by-get2 = by-agreed .before .before .before .before .before .before in
     let by-get = by-get2 .before .before in
     let by-loop-test = by-get .before .before .before .before in
     let turn = by-loop-test .before in
     let entry = turn .before .before .before in
-    let one = bit-low (eqb (by-get .get .result .quality) (by-agreed .agreed .result .qual1) && eqb (by-get2 .get2 .result .quality) (by-agreed .agreed .result .qual2)) in omega (arith, turn .loop .inv .fewer, by-loop-test .loop-test .taken, entry .pre .2, entry .pre .0 .qualities, entry .good .1 .0 .0, c .wide .ensures, by-changed .changed .ensures)
+    let one =
+    bit-low (eqb (by-get .get .result .quality) (by-agreed .agreed .result .qual1) && eqb (by-get2 .get2 .result .quality) (by-agreed .agreed .result .qual2)) in
+    omega (
+      arith,
+      turn .loop .inv .fewer,
+      by-loop-test .loop-test .taken,
+      entry .pre .2,
+      entry .pre .0 .qualities,
+      entry .good .1 .0 .0,
+      c .wide .ensures,
+      c .before .changed .ensures,
+    )
 
 add-t-2 : tie.Need-add-t-2 Inv-loop μ-loop
 add-t-2 c =
@@ -118,8 +132,7 @@ loop-less-2 c = omega arith
 
 loop-again-2 : tie.Need-loop-again-2 Inv-loop μ-loop
 loop-again-2 c =
-    let by-changed = c .before in
-    let by-agreed = by-changed .before .before .before in
+    let by-agreed = c .before .before .before .before in
     let by-if2 = by-agreed .before in
     let by-if1 = by-if2 .before .before .before in
     let by-get2 = by-if1 .before .before in
@@ -129,10 +142,14 @@ loop-again-2 c =
     let entry = turn .before .before .before in
     let args = entry .args in
     let loop = turn .loop in
-    adding-agreed (args .w) (args .y) (args .z) (args .i .0) (args .j .0) (args .n) (state (now (args .first)) (now (args .second)) (args .g)) (loop .t) (loop .first) (loop .second) (loop .h) (loop .agreeing) (loop .corrected)
-    (record { first = entry .pre .0; second = entry .pre .1 }) (entry .pre .2) (entry .pre .3) (by-loop-test .loop-test .taken) (loop .inv) (by-agreed .agreed .result) (c .wide .result)
-    (sym (by-get .get .ensures .base) ∙ (by-if2 .if2 .taken ∙ by-get2 .get2 .ensures .base)) (λ e. by-if1 .if1 .left (by-get .get .ensures .base ∙ e))
-    (rw (by-get .get .ensures .quality, by-get2 .get2 .ensures .quality) at (by-agreed .agreed .ensures)) (rw (by-get .get .ensures .quality, by-get2 .get2 .ensures .quality) at (c .wide .ensures ∙ by-changed .changed .ensures))
+    adding-agreed (args .w) (args .y) (args .z) (args .i .0) (args .j .0) (args .n)
+    (state (now (args .first)) (now (args .second)) (args .g)) (loop .t) (loop .first) (loop .second) (loop .h) (loop .agreeing)
+    (loop .corrected) (record { first = entry .pre .0; second = entry .pre .1 }) (entry .pre .2) (entry .pre .3)
+    (by-loop-test .loop-test .taken) (loop .inv) (by-agreed .agreed .result) (c .wide .result)
+    (sym (by-get .get .ensures .base) ∙ (by-if2 .if2 .taken ∙ by-get2 .get2 .ensures .base))
+    (λ e. by-if1 .if1 .left (by-get .get .ensures .base ∙ e))
+    (rw (by-get .get .ensures .quality, by-get2 .get2 .ensures .quality) at (by-agreed .agreed .ensures))
+    (rw (by-get .get .ensures .quality, by-get2 .get2 .ensures .quality) at (c .wide .ensures ∙ c .before .changed .ensures))
 
 treat-one-requires : tie.Need-treat-one-requires Inv-loop μ-loop
 treat-one-requires c κs =
@@ -145,8 +162,10 @@ treat-one-requires c κs =
       lies-same (loop .inv .run .second) (entry .pre .1),
       omega arith,
       omega arith,
-      adding-room (args .w) (args .y) (args .z) (args .i .0) (args .j .0) (args .n) (state (now (args .first)) (now (args .second)) (args .g)) (loop .t) (loop .first) (loop .second) (loop .h) (loop .agreeing) (loop .corrected)
-          (record { first = entry .pre .0; second = entry .pre .1 }) (entry .pre .2) (entry .pre .3) (by-loop-test .loop-test .taken) (loop .inv),
+      adding-room (args .w) (args .y) (args .z) (args .i .0) (args .j .0) (args .n)
+          (state (now (args .first)) (now (args .second)) (args .g)) (loop .t) (loop .first) (loop .second) (loop .h) (loop .agreeing)
+          (loop .corrected) (record { first = entry .pre .0; second = entry .pre .1 }) (entry .pre .2) (entry .pre .3)
+          (by-loop-test .loop-test .taken) (loop .inv),
     )
 
 add-t-3 : tie.Need-add-t-3 Inv-loop μ-loop
@@ -166,8 +185,10 @@ loop-again-3 c =
     let entry = turn .before .before .before in
     let args = entry .args in
     let loop = turn .loop in
-    adding-differ (args .w) (args .y) (args .z) (args .i .0) (args .j .0) (args .n) (state (now (args .first)) (now (args .second)) (args .g)) (loop .t) (loop .first) (loop .second) (loop .h) (loop .agreeing) (loop .corrected)
-    (record { first = entry .pre .0; second = entry .pre .1 }) (entry .pre .2) (entry .pre .3) (by-loop-test .loop-test .taken) (loop .inv) _ _ _ (by-treat-one .treat-one .ensures)
+    adding-differ (args .w) (args .y) (args .z) (args .i .0) (args .j .0) (args .n)
+    (state (now (args .first)) (now (args .second)) (args .g)) (loop .t) (loop .first) (loop .second) (loop .h) (loop .agreeing)
+    (loop .corrected) (record { first = entry .pre .0; second = entry .pre .1 }) (entry .pre .2) (entry .pre .3)
+    (by-loop-test .loop-test .taken) (loop .inv) _ _ _ (by-treat-one .treat-one .ensures)
 
 agreements-requires : tie.Need-agreements-requires Inv-loop μ-loop
 agreements-requires c κs = search needs
@@ -178,7 +199,9 @@ plus-requires c κs =
     let entry = turn .before .before .before in
     let args = entry .args in
     let loop = turn .loop in
-    adding-adds (args .w) (args .y) (args .z) (args .i .0) (args .j .0) (args .n) (state (now (args .first)) (now (args .second)) (args .g)) (loop .t) (loop .first) (loop .second) (loop .h) (loop .agreeing) (loop .corrected) (c .agreements .result) (c .agreements .ensures) (loop .inv)
+    adding-adds (args .w) (args .y) (args .z) (args .i .0) (args .j .0) (args .n) (state (now (args .first)) (now (args .second)) (args .g))
+    (loop .t) (loop .first) (loop .second) (loop .h) (loop .agreeing) (loop .corrected) (c .agreements .result) (c .agreements .ensures)
+    (loop .inv)
 
 same-length : tie.Need-same-length Inv-loop μ-loop
 same-length c = c .before .before .before .loop .inv .run .first
@@ -188,13 +211,14 @@ same-length-2 c = c .before .before .before .loop .inv .run .second
 
 returns : tie.Need-returns Inv-loop μ-loop
 returns c =
-    let by-agreements = c .before in
-    let by-loop-test = by-agreements .before in
+    let by-loop-test = c .before .before in
     let turn = by-loop-test .before in
     let entry = turn .before .before .before in
     let args = entry .args in
     let loop = turn .loop in
-    adding-end (args .w) (args .y) (args .z) (args .i .0) (args .j .0) (args .n) (state (now (args .first)) (now (args .second)) (args .g)) (loop .t) (loop .first) (loop .second) (loop .h) (loop .agreeing) (loop .corrected) (by-agreements .agreements .result) (by-agreements .agreements .ensures) (loop .inv) (c .plus .result) (c .plus .ensures) (by-loop-test .loop-test .left)
+    adding-end (args .w) (args .y) (args .z) (args .i .0) (args .j .0) (args .n) (state (now (args .first)) (now (args .second)) (args .g))
+    (loop .t) (loop .first) (loop .second) (loop .h) (loop .agreeing) (loop .corrected) (c .before .agreements .result)
+    (c .before .agreements .ensures) (loop .inv) (c .plus .result) (c .plus .ensures) (by-loop-test .loop-test .left)
 
 pub treat-row-spec : {M : Type 1} → statement M
 treat-row-spec =

@@ -43,41 +43,42 @@ all-requires-2 c κs = search needs
 all-requires-3 : tie.Need-all-requires-3
 all-requires-3 c κs = search needs
 
+-- the places that the lengths come from: the calls of `call`, `fill_after`, `keep` and `fill_all`, as seen from the end
+abbrev at-call : tie.After-all3 → tie.After-call
+at-call c = c .before .before .before .before .before .before .before .before .before .before .before .before .before .before .before .before .before .before
+
+abbrev at-fill-after : tie.After-all3 → tie.After-fill-after
+at-fill-after c = at-call c .before .before .before .before .before .before .before .before .before .before
+
+abbrev at-keep3 : tie.After-all3 → tie.After-keep3
+at-keep3 c = at-fill-after c .before .before .before .before .before .before .before
+
+abbrev at-keep2 : tie.After-all3 → tie.After-keep2
+at-keep2 c = at-keep3 c .before .before .before .before .before
+
+abbrev at-keep : tie.After-all3 → tie.After-keep
+at-keep c = at-keep2 c .before .before .before .before .before
+
+abbrev at-fill-all : tie.After-all3 → tie.After-fill-all
+at-fill-all c = at-keep c .before .before .before .before .before .before .before .before .before
+
 same-length : tie.Need-same-length
-same-length c =
-    let by-call = c .before .before .before .before .before .before .before .before .before .before .before .before .before .before .before .before .before .before in
-    let by-fill-all = by-call .before .before .before .before .before .before .before .before .before .before .before .before .before .before .before .before .before .before .before .before .before .before .before .before .before .before .before .before .before .before .before .before .before .before .before .before in
-    by-call .call .kept .1 .1 .0 ∙ by-fill-all .fill-all .kept .1 .1 .0
+same-length c = at-call c .call .kept .1 .1 .0 ∙ at-fill-all c .fill-all .kept .1 .1 .0
 
 same-length-2 : tie.Need-same-length-2
-same-length-2 c =
-    let by-call = c .before .before .before .before .before .before .before .before .before .before .before .before .before .before .before .before .before .before in
-    let by-fill-all = by-call .before .before .before .before .before .before .before .before .before .before .before .before .before .before .before .before .before .before .before .before .before .before .before .before .before .before .before .before .before .before .before .before .before .before .before .before in
-    by-call .call .kept .1 .1 .1 .0 ∙ by-fill-all .fill-all .kept .1 .1 .1 .0
+same-length-2 c = at-call c .call .kept .1 .1 .1 .0 ∙ at-fill-all c .fill-all .kept .1 .1 .1 .0
 
 same-length-3 : tie.Need-same-length-3
-same-length-3 c =
-    let by-call = c .before .before .before .before .before .before .before .before .before .before .before .before .before .before .before .before .before .before in
-    let by-fill-all = by-call .before .before .before .before .before .before .before .before .before .before .before .before .before .before .before .before .before .before .before .before .before .before .before .before .before .before .before .before .before .before .before .before .before .before .before .before in
-    by-call .call .kept .1 .1 .1 .1 .0 ∙ by-fill-all .fill-all .kept .1 .1 .1 .1 .0
+same-length-3 c = at-call c .call .kept .1 .1 .1 .1 .0 ∙ at-fill-all c .fill-all .kept .1 .1 .1 .1 .0
 
 same-length-4 : tie.Need-same-length-4
-same-length-4 c =
-    let by-fill-after = c .before .before .before .before .before .before .before .before .before .before .before .before .before .before .before .before .before .before .before .before .before .before .before .before .before .before .before .before in
-    let by-keep = by-fill-after .before .before .before .before .before .before .before .before .before .before .before .before .before .before .before .before .before in
-    by-fill-after .fill-after .kept .1 .1 .1 .0 ∙ by-keep .keep .kept .1 .0
+same-length-4 c = at-fill-after c .fill-after .kept .1 .1 .1 .0 ∙ at-keep c .keep .kept .1 .0
 
 same-length-5 : tie.Need-same-length-5
-same-length-5 c =
-    let by-fill-after = c .before .before .before .before .before .before .before .before .before .before .before .before .before .before .before .before .before .before .before .before .before .before .before .before .before .before .before .before in
-    let by-keep2 = by-fill-after .before .before .before .before .before .before .before .before .before .before .before .before in
-    by-fill-after .fill-after .kept .1 .1 .1 .1 .0 ∙ by-keep2 .keep2 .kept .1 .0
+same-length-5 c = at-fill-after c .fill-after .kept .1 .1 .1 .1 .0 ∙ at-keep2 c .keep2 .kept .1 .0
 
 same-length-6 : tie.Need-same-length-6
-same-length-6 c =
-    let by-fill-after = c .before .before .before .before .before .before .before .before .before .before .before .before .before .before .before .before .before .before .before .before .before .before .before .before .before .before .before .before in
-    let by-keep3 = by-fill-after .before .before .before .before .before .before .before in
-    by-fill-after .fill-after .kept .1 .1 .1 .1 .1 .0 ∙ by-keep3 .keep3 .kept .1 .0
+same-length-6 c = at-fill-after c .fill-after .kept .1 .1 .1 .1 .1 .0 ∙ at-keep3 c .keep3 .kept .1 .0
 
 returns : tie.Need-returns
 returns c = search needs

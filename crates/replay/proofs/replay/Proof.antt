@@ -1,4 +1,5 @@
--- `replay::replay` meets its contract. Assumes nothing.
+-- `replay::replay` meets its contract. The loop keeps: of the `k` calls so far at most `k` are good, `k` is at most `n`, and every room keeps its
+-- length. The measure is the calls left. Assumes nothing.
 use Prim.Native.Nat.{_-_}
 use mathlib.Core.Path.{refl, _∙_}
 use native.Mathlib.Omega.{arith}
@@ -8,13 +9,29 @@ use Rattle.replay.proofs.replay.Statement.{statement}
 use Rattle.replay.proofs.replay.Tie as tie
 
 abbrev Inv-loop : tie.InvT-loop
-Inv-loop fd n head₀ first₀ second₀ counts₀ was1₀ was2₀ was3₀ k₀ good₀ head first second counts was1 was2 was3 k good = Kept head₀ first₀ second₀ counts₀ was1₀ was2₀ was3₀ head first second counts was1 was2 was3 good k n
+Inv-loop fd n head₀ first₀ second₀ counts₀ was1₀ was2₀ was3₀ k₀ good₀ head first second counts was1 was2 was3 k good =
+    Kept head₀ first₀ second₀ counts₀ was1₀ was2₀ was3₀ head first second counts was1 was2 was3 good k n
 
 abbrev μ-loop : tie.MeasureT-loop
 μ-loop fd n head₀ first₀ second₀ counts₀ was1₀ was2₀ was3₀ k₀ good₀ head first second counts was1 was2 was3 k good = n - k
 
+-- where a turn begins, as seen behind its call of `agrees`
+abbrev turn-of : tie.After-agrees Inv-loop μ-loop → tie.In-loop Inv-loop μ-loop
+turn-of c = c .before .before .before .before .before .before .before .before .before .before .before .before .before .before
+
 loop-holds : tie.Need-loop-holds Inv-loop μ-loop
-loop-holds c = record { few = omega arith; low = omega arith; head-length = refl; first-length = refl; second-length = refl; counts-length = refl; one-length = refl; two-length = refl; three-length = refl }
+loop-holds c =
+    record {
+      few = omega arith;
+      low = omega arith;
+      head-length = refl;
+      first-length = refl;
+      second-length = refl;
+      counts-length = refl;
+      one-length = refl;
+      two-length = refl;
+      three-length = refl;
+    }
 
 fill-requires : tie.Need-fill-requires Inv-loop μ-loop
 fill-requires c κs = search needs
@@ -66,20 +83,23 @@ agrees-requires c κs = search needs
 
 add-good : tie.Need-add-good Inv-loop μ-loop
 add-good c =
-    let by-loop-test = c .before .before .before .before .before .before .before .before .before .before .before .before .before .before .before .before .before .before .before .before .before .before .before .before .before .before .before in
+    let by-agrees = c .before .before .before .before .before .before .before .before .before .before .before .before .before in
+    let by-loop-test = turn-of by-agrees in
     let turn = by-loop-test .before in
-    let entry = turn .before .before .before .before .before .before .before .before in
-    omega (arith, turn .loop .inv .few, by-loop-test .loop-test .taken, entry .fits .n)
+    let by-fits = turn .before .before .before .before .before .before .before .before in
+    omega (arith, turn .loop .inv .few, by-loop-test .loop-test .taken, by-fits .fits .n)
 
 add-k : tie.Need-add-k Inv-loop μ-loop
 add-k c =
-    let by-loop-test = c .before .before .before .before .before .before .before .before .before .before .before .before .before .before .before .before .before .before .before .before .before .before .before .before .before .before .before in
-    let entry = by-loop-test .before .before .before .before .before .before .before .before .before in
-    omega (arith, by-loop-test .loop-test .taken, entry .fits .n)
+    let by-agrees = c .before .before .before .before .before .before .before .before .before .before .before .before .before in
+    let by-loop-test = turn-of by-agrees in
+    let by-fits = by-loop-test .before .before .before .before .before .before .before .before .before in
+    omega (arith, by-loop-test .loop-test .taken, by-fits .fits .n)
 
 loop-less : tie.Need-loop-less Inv-loop μ-loop
 loop-less c =
-    let by-loop-test = c .before .before .before .before .before .before .before .before .before .before .before .before .before .before .before .before .before .before .before .before .before .before .before .before .before .before .before in
+    let by-agrees = c .before .before .before .before .before .before .before .before .before .before .before .before .before in
+    let by-loop-test = turn-of by-agrees in
     omega (arith, by-loop-test .loop-test .taken)
 
 loop-again : tie.Need-loop-again Inv-loop μ-loop
@@ -89,17 +109,35 @@ loop-again c =
     let by-loop-test = by-fill .before .before in
     let turn = by-loop-test .before in
     let loop = turn .loop in
-    record { few = omega (arith, loop .inv .few); low = omega (arith, by-loop-test .loop-test .taken); head-length = by-fill .fill .kept .1 .0 ∙ loop .inv .head-length; first-length = by-agrees .agrees .kept .1 .1 .1 .0 ∙ loop .inv .first-length; second-length = by-agrees .agrees .kept .1 .1 .1 .1 .0 ∙ loop .inv .second-length; counts-length = by-agrees .agrees .kept .1 .1 .1 .1 .1 .0 ∙ loop .inv .counts-length; one-length = by-agrees .agrees .kept .1 .1 .1 .1 .1 .1 .0 ∙ loop .inv .one-length; two-length = by-agrees .agrees .kept .1 .1 .1 .1 .1 .1 .1 .0 ∙ loop .inv .two-length; three-length = by-agrees .agrees .kept .1 .1 .1 .1 .1 .1 .1 .1 .0 ∙ loop .inv .three-length }
+    record {
+      few = omega (arith, loop .inv .few);
+      low = omega (arith, by-loop-test .loop-test .taken);
+      head-length
+          = by-fill .fill .kept .1 .0 ∙ loop .inv .head-length;
+      first-length = by-agrees .agrees .kept .1 .1 .1 .0
+          ∙ loop .inv .first-length;
+      second-length = by-agrees .agrees .kept .1 .1 .1 .1 .0 ∙ loop .inv .second-length;
+      counts-length
+          = by-agrees .agrees .kept .1 .1 .1 .1 .1 .0 ∙ loop .inv .counts-length;
+      one-length
+          = by-agrees .agrees .kept .1 .1 .1 .1 .1 .1 .0 ∙ loop .inv .one-length;
+      two-length
+          = by-agrees .agrees .kept .1 .1 .1 .1 .1 .1 .1 .0 ∙ loop .inv .two-length;
+      three-length
+          = by-agrees .agrees .kept .1 .1 .1 .1 .1 .1 .1 .1 .0 ∙ loop .inv .three-length;
+    }
 
 add-k-2 : tie.Need-add-k-2 Inv-loop μ-loop
 add-k-2 c =
-    let by-loop-test = c .before .before .before .before .before .before .before .before .before .before .before .before .before .before .before .before .before .before .before .before .before .before .before .before .before .before .before in
-    let entry = by-loop-test .before .before .before .before .before .before .before .before .before in
-    omega (arith, by-loop-test .loop-test .taken, entry .fits .n)
+    let by-agrees = c .before .before .before .before .before .before .before .before .before .before .before .before .before in
+    let by-loop-test = turn-of by-agrees in
+    let by-fits = by-loop-test .before .before .before .before .before .before .before .before .before in
+    omega (arith, by-loop-test .loop-test .taken, by-fits .fits .n)
 
 loop-less-2 : tie.Need-loop-less-2 Inv-loop μ-loop
 loop-less-2 c =
-    let by-loop-test = c .before .before .before .before .before .before .before .before .before .before .before .before .before .before .before .before .before .before .before .before .before .before .before .before .before .before .before in
+    let by-agrees = c .before .before .before .before .before .before .before .before .before .before .before .before .before in
+    let by-loop-test = turn-of by-agrees in
     omega (arith, by-loop-test .loop-test .taken)
 
 loop-again-2 : tie.Need-loop-again-2 Inv-loop μ-loop
@@ -109,7 +147,23 @@ loop-again-2 c =
     let by-loop-test = by-fill .before .before in
     let turn = by-loop-test .before in
     let loop = turn .loop in
-    record { few = omega (arith, loop .inv .few); low = omega (arith, by-loop-test .loop-test .taken); head-length = by-fill .fill .kept .1 .0 ∙ loop .inv .head-length; first-length = by-agrees .agrees .kept .1 .1 .1 .0 ∙ loop .inv .first-length; second-length = by-agrees .agrees .kept .1 .1 .1 .1 .0 ∙ loop .inv .second-length; counts-length = by-agrees .agrees .kept .1 .1 .1 .1 .1 .0 ∙ loop .inv .counts-length; one-length = by-agrees .agrees .kept .1 .1 .1 .1 .1 .1 .0 ∙ loop .inv .one-length; two-length = by-agrees .agrees .kept .1 .1 .1 .1 .1 .1 .1 .0 ∙ loop .inv .two-length; three-length = by-agrees .agrees .kept .1 .1 .1 .1 .1 .1 .1 .1 .0 ∙ loop .inv .three-length }
+    record {
+      few = omega (arith, loop .inv .few);
+      low = omega (arith, by-loop-test .loop-test .taken);
+      head-length
+          = by-fill .fill .kept .1 .0 ∙ loop .inv .head-length;
+      first-length = by-agrees .agrees .kept .1 .1 .1 .0
+          ∙ loop .inv .first-length;
+      second-length = by-agrees .agrees .kept .1 .1 .1 .1 .0 ∙ loop .inv .second-length;
+      counts-length
+          = by-agrees .agrees .kept .1 .1 .1 .1 .1 .0 ∙ loop .inv .counts-length;
+      one-length
+          = by-agrees .agrees .kept .1 .1 .1 .1 .1 .1 .0 ∙ loop .inv .one-length;
+      two-length
+          = by-agrees .agrees .kept .1 .1 .1 .1 .1 .1 .1 .0 ∙ loop .inv .two-length;
+      three-length
+          = by-agrees .agrees .kept .1 .1 .1 .1 .1 .1 .1 .1 .0 ∙ loop .inv .three-length;
+    }
 
 same-length-8 : tie.Need-same-length-8 Inv-loop μ-loop
 same-length-8 c = c .before .loop .inv .head-length

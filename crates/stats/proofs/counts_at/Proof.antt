@@ -25,7 +25,10 @@ u64-at-requires-4 : tie.Need-u64-at-requires-4
 u64-at-requires-4 c κs = search needs
 
 returns : tie.Need-returns
-returns c = rw (c .before .before .before .u64-at .ensures, c .before .before .u64-at2 .ensures, c .before .u64-at3 .ensures, c .u64-at4 .ensures)
+returns c =
+    let by-u64-at2 = c .before .before in
+    let by-u64-at = by-u64-at2 .before in
+    rw (by-u64-at .u64-at .ensures, by-u64-at2 .u64-at2 .ensures, c .before .u64-at3 .ensures, c .u64-at4 .ensures)
 
 pub counts-at-spec : {M : Type 1} → statement M
 counts-at-spec =

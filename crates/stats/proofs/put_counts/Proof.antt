@@ -33,12 +33,16 @@ same-length c = search needs
 
 returns : tie.Need-returns
 returns c =
-    let args = c .before .before .before .before .before .before .before .before .before .before .before .before .before .before .before .before .before .args in
-    c .before .before .put-u644 .ensures
-    ∙ ap (λ (x : List ℕ). put 8 x (args .at + 24) (args .g .corrected))
-    (c .before .before .before .before .before .before .put-u643 .ensures
-    ∙ ap (λ (x : List ℕ). put 8 x (args .at + 16) (args .g .disagreeing))
-    (c .before .before .before .before .before .before .before .before .before .before .put-u642 .ensures ∙ ap (λ (x : List ℕ). put 8 x (args .at + 8) (args .g .agreeing)) (c .before .before .before .before .before .before .before .before .before .before .before .before .before .before .put-u64 .ensures)))
+    let by-put-u644 = c .before .before in
+    let by-put-u643 = by-put-u644 .before .before .before .before in
+    let by-put-u642 = by-put-u643 .before .before .before .before in
+    let by-put-u64 = by-put-u642 .before .before .before .before in
+    let entry = by-put-u64 .before .before .before in
+    let args = entry .args in
+    by-put-u644 .put-u644 .ensures ∙ ap (λ (x : List ℕ). put 8 x (args .at + 24) (args .g .corrected))
+    (by-put-u643 .put-u643 .ensures ∙ ap (λ (x : List ℕ). put 8 x (args .at + 16) (args .g .disagreeing))
+    (by-put-u642 .put-u642 .ensures ∙ ap (λ (x : List ℕ). put 8 x (args .at + 8) (args .g .agreeing))
+    (by-put-u64 .put-u64 .ensures)))
 
 pub put-counts-spec : {M : Type 1} → statement M
 put-counts-spec =

@@ -8,7 +8,10 @@ returns : tie.Need-returns
 returns c = first-none (c .before .args .agreement) (c .before .args .disagreement) (c .if1 .taken)
 
 returns-2 : tie.Need-returns-2
-returns-2 c = second-none (c .before .before .args .agreement) (c .before .before .args .disagreement) (c .if2 .taken)
+returns-2 c =
+    let entry = c .before .before in
+    let args = entry .args in
+    second-none (args .agreement) (args .disagreement) (c .if2 .taken)
 
 agreement-of-requires : tie.Need-agreement-of-requires
 agreement-of-requires c κs = search needs
@@ -18,10 +21,10 @@ disagreement-of-requires c κs = search needs
 
 returns-3 : tie.Need-returns-3
 returns-3 c =
-    let by-agreement-of = c .before in
-    let entry = by-agreement-of .before .before .before in
+    let entry = c .before .before .before .before in
     let args = entry .args in
-    both-are (args .agreement) (args .disagreement) (by-agreement-of .agreement-of .result) (c .disagreement-of .result) (by-agreement-of .agreement-of .ensures) (c .disagreement-of .ensures)
+    both-are (args .agreement) (args .disagreement) (c .before .agreement-of .result) (c .disagreement-of .result)
+    (c .before .agreement-of .ensures) (c .disagreement-of .ensures)
 
 pub by-number-spec : {M : Type 1} → statement M
 by-number-spec =

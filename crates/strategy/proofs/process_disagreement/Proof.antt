@@ -19,12 +19,12 @@ disagreement-requires c κs = search needs
 
 returns : tie.Need-returns
 returns c =
-    let by-larger = c .before in
-    let by-if1 = by-larger .before in
+    let by-if1 = c .before .before in
     let by-enum-told = by-if1 .before in
     let entry = by-enum-told .before .before in
     let args = entry .args in
-    rw (by-larger .larger .ensures) at (c .disagreement .ensures) ∙ call-second (args .k) (args .x) (args .a) (args .y) (args .b) (by-enum-told .enum-told .given .1) (by-if1 .if1 .taken)
+    rw (c .before .larger .ensures) at (c .disagreement .ensures) ∙ call-second (args .k) (args .x) (args .a) (args .y) (args .b)
+    (by-enum-told .enum-told .given .1) (by-if1 .if1 .taken)
 
 larger-requires-2 : tie.Need-larger-requires-2
 larger-requires-2 c κs = search needs
@@ -34,12 +34,12 @@ disagreement-requires-2 c κs = search needs
 
 returns-2 : tie.Need-returns-2
 returns-2 c =
-    let by-larger2 = c .before in
-    let by-if2 = by-larger2 .before in
+    let by-if2 = c .before .before in
     let by-enum-told = by-if2 .before .before in
     let entry = by-enum-told .before .before in
     let args = entry .args in
-    rw (by-larger2 .larger2 .ensures) at (c .disagreement2 .ensures) ∙ call-first (args .k) (args .x) (args .a) (args .y) (args .b) (by-enum-told .enum-told .given .1) (by-if2 .if2 .taken)
+    rw (c .before .larger2 .ensures) at (c .disagreement2 .ensures) ∙ call-first (args .k) (args .x) (args .a) (args .y) (args .b)
+    (by-enum-told .enum-told .given .1) (by-if2 .if2 .taken)
 
 disagreement-requires-3 : tie.Need-disagreement-requires-3
 disagreement-requires-3 c κs = search needs
@@ -80,12 +80,12 @@ disagreement-requires-7 c κs = search needs
 
 returns-5 : tie.Need-returns-5
 returns-5 c =
-    let by-if2 = c .before in
-    let by-if1 = by-if2 .before in
+    let by-if1 = c .before .before in
     let by-enum-told = by-if1 .before in
     let entry = by-enum-told .before .before in
     let args = entry .args in
-    c .disagreement3 .ensures ∙ call-none (args .k) (args .x) (args .a) (args .y) (args .b) (by-enum-told .enum-told .given .1) (by-if2 .if2 .left) (by-if1 .if1 .left)
+    c .disagreement3 .ensures ∙ call-none (args .k) (args .x) (args .a) (args .y) (args .b) (by-enum-told .enum-told .given .1)
+    (c .before .if2 .left) (by-if1 .if1 .left)
 
 returns-6 : tie.Need-returns-6
 returns-6 c =
@@ -96,12 +96,12 @@ returns-6 c =
 
 returns-7 : tie.Need-returns-7
 returns-7 c =
-    let by-if4 = c .before in
-    let by-if3 = by-if4 .before in
+    let by-if3 = c .before .before in
     let by-enum-told3 = by-if3 .before in
     let entry = by-enum-told3 .before .before in
     let args = entry .args in
-    c .disagreement7 .ensures ∙ mask-equal (args .k) (args .x) (args .a) (args .y) (args .b) (by-enum-told3 .enum-told3 .given .1) (by-if4 .if4 .left) (by-if3 .if3 .left)
+    c .disagreement7 .ensures ∙ mask-equal (args .k) (args .x) (args .a) (args .y) (args .b) (by-enum-told3 .enum-told3 .given .1)
+    (c .before .if4 .left) (by-if3 .if3 .left)
 
 pub process-disagreement-spec : {M : Type 1} → statement M
 process-disagreement-spec =

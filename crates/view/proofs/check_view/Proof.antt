@@ -22,10 +22,18 @@ number-requires : tie.Need-number-requires
 number-requires c κs = search needs
 
 returns-2 : tie.Need-returns-2
-returns-2 c = bad-refused _ _ (sym (c .before .before .before .before .before .check-record .ensures) ∙ (c .before .before .before .checked .given .1)) (omega (arith, (c .before .number .ensures), (c .if1 .taken)))
+returns-2 c =
+    let by-checked = c .before .before .before in
+    let by-check-record = by-checked .before .before in
+    bad-refused _ _ (sym (by-check-record .check-record .ensures) ∙ (by-checked .checked .given .1))
+    (omega (arith, c .before .number .ensures, c .if1 .taken))
 
 returns-3 : tie.Need-returns-3
-returns-3 c = bad-well _ _ (sym (c .before .before .before .before .before .check-record .ensures) ∙ (c .before .before .before .checked .given .1)) (omega (arith, (c .before .number .ensures), (c .if1 .left)))
+returns-3 c =
+    let by-checked = c .before .before .before in
+    let by-check-record = by-checked .before .before in
+    bad-well _ _ (sym (by-check-record .check-record .ensures) ∙ (by-checked .checked .given .1))
+    (omega (arith, c .before .number .ensures, c .if1 .left))
 
 pub check-view-spec : {M : Type 1} → statement M
 check-view-spec =

@@ -81,12 +81,16 @@ module _ {M : Type 1} (𝓤 : URA M) (H : Heap 𝓤) (A : Atoms 𝓤) (W : Given
 
 module _ {M : Type 1} (𝓤 : URA M) (H : Heap 𝓤) (A : Atoms 𝓤) (W : Given 𝓤 H A) (mem : Memory → SProp 𝓤) (run : Routine → Fun 𝓤) where
   view-of-walks : (C : Calls 𝓤 H) (Λ : Loops 𝓤 H) → Walks 𝓤 H A view.ended stayed (WpFn 𝓤 H C Λ code.function) (view.clauses 𝓤 H A mem run)
-  view-of-walks C Λ = walked 𝓤 H A view.ended stayed (view.clauses 𝓤 H A mem run) (WpFn 𝓤 H C Λ code.function) (λ κs. (slice-vals, tt)) (λ κs. (shr-slice-tells (named 0) (κs .0) u8, tt))
+  view-of-walks C Λ =
+      walked 𝓤 H A view.ended stayed (view.clauses 𝓤 H A mem run) (WpFn 𝓤 H C Λ code.function) (λ κs. (slice-vals, tt))
+      (λ κs. (shr-slice-tells (named 0) (κs .0) u8, tt))
       (λ κs qs bounds a g are. via 𝓤 _ (fst∗ 𝓤 _ (emp 𝓤)) (walk 𝓤 H A W mem run (κs .0) (qs .0) (a .0) C Λ (are .0)))
 
 view-of-meets : {M : Type 1} (𝓤 : URA M) (H : Heap 𝓤) (A : Atoms 𝓤) → Given 𝓤 H A → (mem : Memory → SProp 𝓤) (run : Routine → Fun 𝓤) (𝓣 : Tables 𝓤 H)
     → Meets 𝓤 H A view.signature (WpFn 𝓤 H (𝓣 .C) (𝓣 .Λ) code.function) (view.spec 𝓤 H A mem run)
-view-of-meets 𝓤 H A W mem run 𝓣 = walk-meets 𝓤 H A view.ended stayed W (goes-none-slice 𝓤 H A W 1 (0 ∷ []) tt (plain (λ _. u8)) yes, tt) (view.clauses 𝓤 H A mem run) (WpFn 𝓤 H (𝓣 .C) (𝓣 .Λ) code.function) (WpFn-mono 𝓤 H (W .laws) 𝓣 code.function) (view-of-walks 𝓤 H A W mem run (𝓣 .C) (𝓣 .Λ))
+view-of-meets 𝓤 H A W mem run 𝓣 =
+    walk-meets 𝓤 H A view.ended stayed W (goes-none-slice 𝓤 H A W 1 (0 ∷ []) tt (plain (λ _. u8)) yes, tt) (view.clauses 𝓤 H A mem run)
+    (WpFn 𝓤 H (𝓣 .C) (𝓣 .Λ) code.function) (WpFn-mono 𝓤 H (W .laws) 𝓣 code.function) (view-of-walks 𝓤 H A W mem run (𝓣 .C) (𝓣 .Λ))
 
 pub view-of-spec : {M : Type 1} → stated.statement M
 unfolding code.routine tablesOf
