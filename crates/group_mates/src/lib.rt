@@ -68,9 +68,7 @@ fn enter_keys(s: &[u8], begins: &[usize], n: usize, key: &mut [u64])
 {
     let mut k: usize = 0;
     while k < n {
-        let start = begins[k] + 4;
-        let end = begins[k + 1];
-        key[k] = key_of(&s[start..end]);
+        key[k] = key_of(group_frames::record_at(s, begins, k));
         k += 1;
     }
 }
@@ -122,11 +120,8 @@ fn fits_at(s: &[u8], begins: &[usize], key: &[u64], n: usize, q: u64, i: usize, 
     if j == i {
         return true;
     }
-    let start = begins[i] + 4;
-    let end = begins[i + 1];
-    let other_start = begins[j] + 4;
-    let other_end = begins[j + 1];
-    same_name(&s[other_start..other_end], &s[start..end])
+    let other = group_frames::record_at(s, begins, j);
+    same_name(other, group_frames::record_at(s, begins, i))
 }
 
 // One more than the index of the record that has the registration of place q and the name of
