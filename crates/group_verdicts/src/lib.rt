@@ -97,11 +97,9 @@ fn judge_at(s: &[u8], begins: &[usize], n: usize, i: usize, j: usize) -> Verdict
     requires { ⌜ Placed (now s) (now begins) n × (i < n) × (j < n) ⌝ }
     ensures { λ r. ⌜ r ≡ indexedAt (now (s .entry)) i j ⌝ }
 {
-    let start = begins[i] + 4;
-    let end = begins[i + 1];
-    let mate_start = begins[j] + 4;
-    let mate_end = begins[j + 1];
-    judge_pair(&s[start..end], &s[mate_start..mate_end], i as u16, j as u16)
+    let first = group_frames::record_at(s, begins, i);
+    let second = group_frames::record_at(s, begins, j);
+    judge_pair(first, second, i as u16, j as u16)
 }
 
 // Every pair judged, in order of the first's index.
