@@ -7,18 +7,17 @@ ghost use mathlib.Core.Path.{_≡_};
 ghost use Prim.Native.Nat.{ℕ, _+_, _-_, _<_, _≤_};
 ghost use mathlib.Core.Bool.{cond};
 ghost use lib.Dec.{eqb};
-ghost use lib.ListN.{length, getD};
+ghost use lib.ListN.{length, getD, take};
 ghost use Rattle.stats.specs.Counts.{zeroed};
 ghost use Rattle.group_frames.specs.Part.{part, splice};
 ghost use Rattle.group_frames.specs.Frame.{beginOf, startOf, endOf, recordOf};
 ghost use Rattle.group_frames.specs.Table.{Placed};
 ghost use Rattle.group_mates.specs.Register.{matesOf};
 ghost use Rattle.group_mates.specs.Table.{Mated};
-ghost use Rattle.group_verdicts.specs.Judged.{pairAt};
 ghost use Rattle.group_applying.specs.Within.{startIn, endIn};
 ghost use Rattle.filed_writing.specs.Lead.{Pairing, Led};
 ghost use Rattle.filed_writing.specs.Short.{Short};
-ghost use Rattle.filed_writing.specs.Written.{added, Treats, Copied, corrected, Front, applied, addedBy, WrittenTo};
+ghost use Rattle.filed_writing.specs.Written.{Treats, Copied, corrected, Front, applied, addedBy, WrittenTo};
 
 // Empties the first n entries of the table.
 fn clear(lead: &mut [usize], n: usize)
@@ -114,11 +113,9 @@ fn treat_pair(
     requires { ⌜ Placed (now s) (now begins) n × (i < n) × (j < n) × Short (now begins) n (length (now left)) × Short (now begins) n (length (now right)) ⌝ }
     ensures { λ r. ⌜ Copied w (recordOf (now (s .entry)) i) (recordOf (now (s .entry)) j) (now (left .exit)) (now (right .exit)) r ⌝ }
 {
-    let start = begins[i] + 4;
-    let end = begins[i + 1];
-    let mate_start = begins[j] + 4;
-    let mate_end = begins[j + 1];
-    treat_copies(&s[start..end], &s[mate_start..mate_end], w, left, right)
+    let first = group_frames::record_at(s, begins, i);
+    let second = group_frames::record_at(s, begins, j);
+    treat_copies(first, second, w, left, right)
 }
 
 // What a record that is no first of a pair counts as.
@@ -132,55 +129,15 @@ fn no_pair() -> Applied
     }
 }
 
-// Puts bytes where record k lies.
+// Puts as many bytes as record k has, from the front of x, where that record lies.
 fn put_record(begins: &[usize], k: usize, x: &[u8], out: &mut [u8])
-    requires { ⌜ (k + 1 < length (now begins)) × (startIn (now begins) k ≤ endIn (now begins) k) × (endIn (now begins) k ≤ length (now out)) × (length (now x) ≡ endIn (now begins) k - startIn (now begins) k) ⌝ }
-    ensures { λ _. ⌜ now (out .exit) ≡ splice (now (out .entry)) (startIn (now (begins .entry)) k) (endIn (now (begins .entry)) k) (now (x .entry)) ⌝ }
+    requires { ⌜ (k + 1 < length (now begins)) × (startIn (now begins) k ≤ endIn (now begins) k) × (endIn (now begins) k ≤ length (now out)) × (endIn (now begins) k - startIn (now begins) k ≤ length (now x)) ⌝ }
+    ensures { λ _. ⌜ now (out .exit) ≡ splice (now (out .entry)) (startIn (now (begins .entry)) k) (endIn (now (begins .entry)) k) (take (endIn (now (begins .entry)) k - startIn (now (begins .entry)) k) (now (x .entry))) ⌝ }
 {
     let start = begins[k] + 4;
     let end = begins[k + 1];
-    group_applying::copy(&mut out[start..end], x);
-}
-
-// Treats records i and j as a pair, writes the first of them, and says what the pair adds.
-fn write_first(
-    s: &[u8],
-    begins: &[usize],
-    n: usize,
-    i: usize,
-    j: usize,
-    w: Strategies,
-    left: &mut [u8],
-    right: &mut [u8],
-    out: &mut [u8],
-) -> Applied
-    requires { ⌜ Placed (now s) (now begins) n × (i < n) × (j < n) × Short (now begins) n (length (now left)) × Short (now begins) n (length (now right)) × (endOf (now s) i ≤ length (now out)) ⌝ }
-    ensures { λ r. ⌜ (now (out .exit) ≡ splice (now (out .entry)) (startOf (now (s .entry)) i) (endOf (now (s .entry)) i) (pairAt w (now (s .entry)) i j .after .first)) × (r ≡ added (pairAt w (now (s .entry)) i j)) ⌝ }
-{
-    let one = treat_pair(s, begins, n, i, j, w, left, right);
-    let size = begins[i + 1] - (begins[i] + 4);
-    put_record(begins, i, &left[0..size], out);
-    one
-}
-
-// Treats records i and j as a pair, and writes the last of them.
-fn write_last(
-    s: &[u8],
-    begins: &[usize],
-    n: usize,
-    i: usize,
-    j: usize,
-    w: Strategies,
-    left: &mut [u8],
-    right: &mut [u8],
-    out: &mut [u8],
-)
-    requires { ⌜ Placed (now s) (now begins) n × (i < n) × (j < n) × Short (now begins) n (length (now left)) × Short (now begins) n (length (now right)) × (endOf (now s) j ≤ length (now out)) ⌝ }
-    ensures { λ _. ⌜ now (out .exit) ≡ splice (now (out .entry)) (startOf (now (s .entry)) j) (endOf (now (s .entry)) j) (pairAt w (now (s .entry)) i j .after .second) ⌝ }
-{
-    treat_pair(s, begins, n, i, j, w, left, right);
-    let size = begins[j + 1] - (begins[j] + 4);
-    put_record(begins, j, &right[0..size], out);
+    let size = end - start;
+    group_applying::copy(&mut out[start..end], &x[0..size]);
 }
 
 // Writes record k as it is in the corrected group. Its pair counts where the first is written.
@@ -201,16 +158,17 @@ fn write_record(
 {
     let m = mate[k];
     if m != 0 {
-        return write_first(s, begins, n, k, m - 1, w, left, right, out);
+        let one = treat_pair(s, begins, n, k, m - 1, w, left, right);
+        put_record(begins, k, left, out);
+        return one;
     }
     let f = lead[k];
     if f != 0 {
-        write_last(s, begins, n, f - 1, k, w, left, right, out);
+        treat_pair(s, begins, n, f - 1, k, w, left, right);
+        put_record(begins, k, right, out);
         return no_pair();
     }
-    let start = begins[k] + 4;
-    let end = begins[k + 1];
-    put_record(begins, k, &s[start..end], out);
+    put_record(begins, k, group_frames::record_at(s, begins, k), out);
     no_pair()
 }
 

@@ -1,7 +1,10 @@
 -- `filed_writing::put_record` meets its contract. Assumes nothing.
-use mathlib.Core.Path.{ap}
+use Prim.Native.Nat.{ℕ, _-_}
+use mathlib.Core.Path.{_≡_, _∙_, ap}
+use lib.ListN.{take}
 use Rattle.group_frames.specs.Part.{splice}
 use Rattle.group_applying.specs.Within.{startIn, endIn}
+use native.Mathlib.Omega.{arith}
 use denote.Ref.{now}
 use borrow.Author.Needs.{needs}
 use Rattle.filed_writing.proofs.put_record.Statement.{statement}
@@ -25,6 +28,9 @@ mul-end c = search needs
 shared-slice-read-end : tie.Need-shared-slice-read-end
 shared-slice-read-end c = search needs
 
+sub-size : tie.Need-sub-size
+sub-size c = search needs
+
 sub-copy : tie.Need-sub-copy
 sub-copy c = search needs
 
@@ -34,6 +40,15 @@ part-copy-start c = search needs
 part-copy-end : tie.Need-part-copy-end
 part-copy-end c = search needs
 
+sub-copy-2 : tie.Need-sub-copy-2
+sub-copy-2 c = search needs
+
+part-copy-start-2 : tie.Need-part-copy-start-2
+part-copy-start-2 c = search needs
+
+part-copy-end-2 : tie.Need-part-copy-end-2
+part-copy-end-2 c = search needs
+
 copy-requires : tie.Need-copy-requires
 copy-requires c κs = search needs
 
@@ -42,8 +57,14 @@ same-length c = search needs
 
 returns : tie.Need-returns
 returns c =
-    let args = c .before .before .before .before .before .before .before .before .before .args in
-    ap (splice (now (args .out)) (startIn (now (args .begins)) (args .k)) (endIn (now (args .begins)) (args .k))) (c .before .before .copy .ensures)
+    let by-copy = c .before .before in
+    let entry = by-copy .before .before .before .before .before .before .before .before in
+    let args = entry .args in
+    let begins = now (args .begins) in
+    let start = startIn begins (args .k) in
+    let end = endIn begins (args .k) in
+    let size : end - start - 0 ≡ end - start = omega arith in
+    ap (splice (now (args .out)) start end) (by-copy .copy .ensures ∙ ap (λ (z : ℕ). take z (now (args .x))) size)
 
 pub put-record-spec : {M : Type 1} → statement M
 put-record-spec =
@@ -55,9 +76,13 @@ put-record-spec =
     add-end
     mul-end
     shared-slice-read-end
+    sub-size
     sub-copy
     part-copy-start
     part-copy-end
+    sub-copy-2
+    part-copy-start-2
+    part-copy-end-2
     copy-requires
     same-length
     returns)

@@ -1,9 +1,7 @@
 -- `filed_writing::write_record` meets its contract. Assumes nothing.
 use mathlib.Core.Path.{_∙_, ap}
-use Rattle.group_frames.specs.Part.{splice}
-use Rattle.group_frames.specs.Frame.{startOf, endOf}
-use Rattle.group_frames.proofs.PlaceLaws.{at-part, at-order, at-in}
-use Rattle.filed_writing.proofs.PlaceLaws.{part-long, in-table, in-out, put-at}
+use lib.ListN.{length}
+use Rattle.filed_writing.proofs.PlaceLaws.{record-long, put-fits, put-front, put-whole}
 use Rattle.filed_writing.proofs.ChosenLaws.{first-in, first-due, first-added, none-added, alone-due, last-in, last-due}
 use native.Mathlib.Omega.{arith}
 use denote.Ref.{now}
@@ -17,14 +15,23 @@ mul-m c = search needs
 shared-slice-read-m : tie.Need-shared-slice-read-m
 shared-slice-read-m c = search needs
 
-sub-write-first : tie.Need-sub-write-first
-sub-write-first c = search needs
+sub-treat-pair : tie.Need-sub-treat-pair
+sub-treat-pair c = search needs
 
-write-first-requires : tie.Need-write-first-requires
-write-first-requires c κs =
-    let entry = c .before .before .before .before .before .before .before .before .before .before .before .before in
+treat-pair-requires : tie.Need-treat-pair-requires
+treat-pair-requires c κs =
+    let by-if1 = c .before .before in
+    let entry = by-if1 .before .before .before .before .before .before .before .before .before in
     let args = entry .args in
-    (entry .pre .0, entry .pre .3, first-in (args .w) (now (args .s)) (now (args .begins)) (now (args .mate)) (now (args .lead)) (args .n) (entry .pre .0) (entry .pre .1) (entry .pre .2) (args .k) (entry .pre .3) (c .before .before .before .if1 .taken), entry .pre .4, entry .pre .5, entry .pre .6)
+    (entry .pre .0, entry .pre .3, first-in (args .w) _ (now (args .begins)) (now (args .mate)) (now (args .lead)) (args .n) (entry .pre .0) (entry .pre .1) (entry .pre .2) (args .k) (entry .pre .3) (by-if1 .if1 .taken), entry .pre .4, entry .pre .5)
+
+put-record-requires : tie.Need-put-record-requires
+put-record-requires c κs =
+    let by-treat-pair = c .before .before .before .before .before .before in
+    let entry = by-treat-pair .before .before .before .before .before .before .before .before .before .before .before .before in
+    let args = entry .args in
+    put-fits _ _ (args .n) (entry .pre .0) (args .k) (entry .pre .3) _ _
+    (omega (arith, by-treat-pair .treat-pair .kept .1 .1 .1 .1 .1 .1 .0, entry .pre .4 (args .k) (entry .pre .3))) (entry .pre .6)
 
 same-length : tie.Need-same-length
 same-length c = search needs
@@ -36,7 +43,16 @@ same-length-3 : tie.Need-same-length-3
 same-length-3 c = search needs
 
 returns : tie.Need-returns
-returns c = ((c .before .before .before .before .before .before .write-first .ensures .0) ∙ ap (splice (now (c .before .before .before .before .before .before .before .before .before .before .before .before .before .before .before .before .before .before .before .args .out)) (startOf (now (c .before .before .before .before .before .before .before .before .before .before .before .before .before .before .before .before .before .before .before .args .s)) (c .before .before .before .before .before .before .before .before .before .before .before .before .before .before .before .before .before .before .before .args .k)) (endOf (now (c .before .before .before .before .before .before .before .before .before .before .before .before .before .before .before .before .before .before .before .args .s)) (c .before .before .before .before .before .before .before .before .before .before .before .before .before .before .before .before .before .before .before .args .k))) (first-due (c .before .before .before .before .before .before .before .before .before .before .before .before .before .before .before .before .before .before .before .args .w) (now (c .before .before .before .before .before .before .before .before .before .before .before .before .before .before .before .before .before .before .before .args .s)) (now (c .before .before .before .before .before .before .before .before .before .before .before .before .before .before .before .before .before .before .before .args .begins)) (now (c .before .before .before .before .before .before .before .before .before .before .before .before .before .before .before .before .before .before .before .args .mate)) (now (c .before .before .before .before .before .before .before .before .before .before .before .before .before .before .before .before .before .before .before .args .lead)) (c .before .before .before .before .before .before .before .before .before .before .before .before .before .before .before .before .before .before .before .args .n) (c .before .before .before .before .before .before .before .before .before .before .before .before .before .before .before .before .before .before .before .pre .0) (c .before .before .before .before .before .before .before .before .before .before .before .before .before .before .before .before .before .before .before .pre .1) (c .before .before .before .before .before .before .before .before .before .before .before .before .before .before .before .before .before .before .before .pre .2) (c .before .before .before .before .before .before .before .before .before .before .before .before .before .before .before .before .before .before .before .args .k) (c .before .before .before .before .before .before .before .before .before .before .before .before .before .before .before .before .before .before .before .pre .3) (c .before .before .before .before .before .before .before .before .before .before .if1 .taken)), first-added (c .before .before .before .before .before .before .before .before .before .before .before .before .before .before .before .before .before .before .before .args .w) (now (c .before .before .before .before .before .before .before .before .before .before .before .before .before .before .before .before .before .before .before .args .s)) (now (c .before .before .before .before .before .before .before .before .before .before .before .before .before .before .before .before .before .before .before .args .begins)) (now (c .before .before .before .before .before .before .before .before .before .before .before .before .before .before .before .before .before .before .before .args .mate)) (now (c .before .before .before .before .before .before .before .before .before .before .before .before .before .before .before .before .before .before .before .args .lead)) (c .before .before .before .before .before .before .before .before .before .before .before .before .before .before .before .before .before .before .before .args .n) (c .before .before .before .before .before .before .before .before .before .before .before .before .before .before .before .before .before .before .before .pre .0) (c .before .before .before .before .before .before .before .before .before .before .before .before .before .before .before .before .before .before .before .pre .1) (c .before .before .before .before .before .before .before .before .before .before .before .before .before .before .before .before .before .before .before .pre .2) (c .before .before .before .before .before .before .before .before .before .before .before .before .before .before .before .before .before .before .before .args .k) (c .before .before .before .before .before .before .before .before .before .before .before .before .before .before .before .before .before .before .before .pre .3) (c .before .before .before .before .before .before .before .before .before .before .if1 .taken) (c .before .before .before .before .before .before .write-first .result) (c .before .before .before .before .before .before .write-first .ensures .1))
+returns c =
+    let by-put-record = c .before .before in
+    let by-treat-pair = by-put-record .before .before .before .before .before .before .before in
+    let by-if1 = by-treat-pair .before .before .before in
+    let entry = by-if1 .before .before .before .before .before .before .before .before .before in
+    let args = entry .args in
+    let due = first-due (args .w) _ (now (args .begins)) (now (args .mate)) (now (args .lead)) (args .n) (entry .pre .0) (entry .pre .1) (entry .pre .2) (args .k) (entry .pre .3) (by-if1 .if1 .taken) in (
+      put-front _ _ (args .n) (entry .pre .0) (args .k) (entry .pre .3) _ _ _ _ (by-put-record .put-record .ensures) (by-treat-pair .treat-pair .ensures .first ∙ due),
+      first-added (args .w) _ (now (args .begins)) (now (args .mate)) (now (args .lead)) (args .n) (entry .pre .0) (entry .pre .1) (entry .pre .2) (args .k) (entry .pre .3) (by-if1 .if1 .taken) _ (by-treat-pair .treat-pair .ensures .adds),
+    )
 
 mul-f : tie.Need-mul-f
 mul-f c = search needs
@@ -44,14 +60,23 @@ mul-f c = search needs
 shared-slice-read-f : tie.Need-shared-slice-read-f
 shared-slice-read-f c = search needs
 
-sub-write-last : tie.Need-sub-write-last
-sub-write-last c = search needs
+sub-treat-pair-2 : tie.Need-sub-treat-pair-2
+sub-treat-pair-2 c = search needs
 
-write-last-requires : tie.Need-write-last-requires
-write-last-requires c κs =
-    let entry = c .before .before .before .before .before .before .before .before .before .before .before .before .before .before in
+treat-pair-requires-2 : tie.Need-treat-pair-requires-2
+treat-pair-requires-2 c κs =
+    let by-if2 = c .before .before in
+    let entry = by-if2 .before .before .before .before .before .before .before .before .before .before .before in
     let args = entry .args in
-    (entry .pre .0, last-in (args .w) (now (args .s)) (now (args .begins)) (now (args .mate)) (now (args .lead)) (args .n) (entry .pre .0) (entry .pre .1) (entry .pre .2) (args .k) (entry .pre .3) (c .before .before .before .if2 .taken), entry .pre .3, entry .pre .4, entry .pre .5, entry .pre .6)
+    (entry .pre .0, last-in (args .w) _ (now (args .begins)) (now (args .mate)) (now (args .lead)) (args .n) (entry .pre .0) (entry .pre .1) (entry .pre .2) (args .k) (entry .pre .3) (by-if2 .if2 .taken), entry .pre .3, entry .pre .4, entry .pre .5)
+
+put-record-requires-2 : tie.Need-put-record-requires-2
+put-record-requires-2 c κs =
+    let by-treat-pair2 = c .before .before .before .before .before .before in
+    let entry = by-treat-pair2 .before .before .before .before .before .before .before .before .before .before .before .before .before .before in
+    let args = entry .args in
+    put-fits _ _ (args .n) (entry .pre .0) (args .k) (entry .pre .3) _ _
+    (omega (arith, by-treat-pair2 .treat-pair2 .kept .1 .1 .1 .1 .1 .1 .1 .0, entry .pre .5 (args .k) (entry .pre .3))) (entry .pre .6)
 
 no-pair-requires : tie.Need-no-pair-requires
 no-pair-requires c κs = search needs
@@ -67,54 +92,28 @@ same-length-6 c = search needs
 
 returns-2 : tie.Need-returns-2
 returns-2 c =
-    let entry = c .before .before .before .before .before .before .before .before .before .before .before .before .before .before .before .before .before .before .before .before .before .before in
+    let by-put-record2 = c .before .before .before in
+    let by-treat-pair2 = by-put-record2 .before .before .before .before .before .before .before in
+    let by-if2 = by-treat-pair2 .before .before .before in
+    let by-if1 = by-if2 .before .before in
+    let entry = by-if1 .before .before .before .before .before .before .before .before .before in
     let args = entry .args in
-    (c .before .before .before .before .before .before .before .write-last .ensures ∙ ap (splice (now (args .out)) (startOf (now (args .s)) (args .k)) (endOf (now (args .s)) (args .k))) (last-due (args .w) (now (args .s)) (now (args .begins)) (now (args .mate)) (now (args .lead)) (args .n) (entry .pre .0) (entry .pre .1) (entry .pre .2) (args .k) (entry .pre .3) (c .before .before .before .before .before .before .before .before .before .before .before .if2 .taken)), none-added (args .w) (now (args .s)) (now (args .begins)) (now (args .mate)) (now (args .lead)) (args .n) (entry .pre .0) (entry .pre .1) (entry .pre .2) (args .k) (entry .pre .3) (c .before .before .before .before .before .before .before .before .before .before .before .before .before .if1 .left) (c .no-pair .result) (c .no-pair .ensures))
+    let due = last-due (args .w) _ (now (args .begins)) (now (args .mate)) (now (args .lead)) (args .n) (entry .pre .0) (entry .pre .1) (entry .pre .2) (args .k) (entry .pre .3) (by-if2 .if2 .taken) in (
+      put-front _ _ (args .n) (entry .pre .0) (args .k) (entry .pre .3) _ _ _ _ (by-put-record2 .put-record2 .ensures) (by-treat-pair2 .treat-pair2 .ensures .second ∙ due),
+      none-added (args .w) _ (now (args .begins)) (now (args .mate)) (now (args .lead)) (args .n) (entry .pre .0) (entry .pre .1) (entry .pre .2) (args .k) (entry .pre .3) (by-if1 .if1 .left) _ (c .no-pair .ensures),
+    )
 
-mul-start : tie.Need-mul-start
-mul-start c = search needs
+record-at-requires : tie.Need-record-at-requires
+record-at-requires c κs =
+    let entry = c .before .before .before .before .before .before .before .before .before .before .before in
+    (entry .args .n, entry .pre .0, entry .pre .3)
 
-shared-slice-read-start : tie.Need-shared-slice-read-start
-shared-slice-read-start c = search needs
-
-add-start : tie.Need-add-start
-add-start c =
-    let entry = c .before .before .before .before .before .before .before .before .before .before .before .before in
-    let args = entry .args in
-    omega (arith, at-order (now (args .s)) (now (args .begins)) (args .n) (entry .pre .0) (args .k) (entry .pre .3), at-in (now (args .s)) (now (args .begins)) (args .n) (entry .pre .0) (args .k) (entry .pre .3))
-
-add-end : tie.Need-add-end
-add-end c = search needs
-
-mul-end : tie.Need-mul-end
-mul-end c = search needs
-
-shared-slice-read-end : tie.Need-shared-slice-read-end
-shared-slice-read-end c = search needs
-
-sub-put-record : tie.Need-sub-put-record
-sub-put-record c =
+put-record-requires-3 : tie.Need-put-record-requires-3
+put-record-requires-3 c κs =
     let entry = c .before .before .before .before .before .before .before .before .before .before .before .before .before in
     let args = entry .args in
-    at-order (now (args .s)) (now (args .begins)) (args .n) (entry .pre .0) (args .k) (entry .pre .3)
-
-part-put-record-start : tie.Need-part-put-record-start
-part-put-record-start c =
-    let entry = c .before .before .before .before .before .before .before .before .before .before .before .before .before in
-    let args = entry .args in
-    at-order (now (args .s)) (now (args .begins)) (args .n) (entry .pre .0) (args .k) (entry .pre .3)
-
-part-put-record-end : tie.Need-part-put-record-end
-part-put-record-end c =
-    let entry = c .before .before .before .before .before .before .before .before .before .before .before .before .before in
-    let args = entry .args in
-    at-in (now (args .s)) (now (args .begins)) (args .n) (entry .pre .0) (args .k) (entry .pre .3)
-
-put-record-requires : tie.Need-put-record-requires
-put-record-requires c κs =
-    let entry = c .before .before .before .before .before .before .before .before .before .before .before .before .before .before .before in
-    let args = entry .args in
-    (in-table (now (args .s)) (now (args .begins)) (args .n) (entry .pre .0) (args .k) (entry .pre .3), at-order (now (args .s)) (now (args .begins)) (args .n) (entry .pre .0) (args .k) (entry .pre .3), in-out (now (args .s)) (now (args .begins)) (args .n) (entry .pre .0) (args .k) (entry .pre .3) _ (entry .pre .6), part-long (now (args .s)) (now (args .begins)) (args .n) (entry .pre .0) (args .k) (entry .pre .3))
+    put-fits _ _ (args .n) (entry .pre .0) (args .k) (entry .pre .3) _ _
+    (omega (arith, ap length (c .before .record-at .ensures), record-long _ _ (args .n) (entry .pre .0) (args .k) (entry .pre .3))) (entry .pre .6)
 
 no-pair-requires-2 : tie.Need-no-pair-requires-2
 no-pair-requires-2 c κs = search needs
@@ -124,9 +123,16 @@ same-length-7 c = search needs
 
 returns-3 : tie.Need-returns-3
 returns-3 c =
-    let entry = c .before .before .before .before .before .before .before .before .before .before .before .before .before .before .before .before .before .before .before in
+    let by-put-record3 = c .before .before .before in
+    let by-record-at = by-put-record3 .before .before in
+    let by-if2 = by-record-at .before in
+    let by-if1 = by-if2 .before .before in
+    let entry = by-if1 .before .before .before .before .before .before .before .before .before in
     let args = entry .args in
-    (put-at (now (args .s)) (now (args .begins)) (args .n) (entry .pre .0) (args .k) (entry .pre .3) _ _ _ _ (c .before .before .before .put-record .ensures) (at-part (now (args .s)) (now (args .begins)) (args .n) (entry .pre .0) (args .k) (entry .pre .3) ∙ alone-due (args .w) (now (args .s)) (now (args .begins)) (now (args .mate)) (now (args .lead)) (args .n) (entry .pre .0) (entry .pre .1) (entry .pre .2) (args .k) (entry .pre .3) (c .before .before .before .before .before .before .before .before .before .before .if1 .left) (c .before .before .before .before .before .before .before .before .if2 .left)), none-added (args .w) (now (args .s)) (now (args .begins)) (now (args .mate)) (now (args .lead)) (args .n) (entry .pre .0) (entry .pre .1) (entry .pre .2) (args .k) (entry .pre .3) (c .before .before .before .before .before .before .before .before .before .before .if1 .left) (c .no-pair2 .result) (c .no-pair2 .ensures))
+    let due = alone-due (args .w) _ (now (args .begins)) (now (args .mate)) (now (args .lead)) (args .n) (entry .pre .0) (entry .pre .1) (entry .pre .2) (args .k) (entry .pre .3) (by-if1 .if1 .left) (by-if2 .if2 .left) in (
+      put-whole _ _ (args .n) (entry .pre .0) (args .k) (entry .pre .3) _ _ _ _ (by-put-record3 .put-record3 .ensures) (by-record-at .record-at .ensures) due,
+      none-added (args .w) _ (now (args .begins)) (now (args .mate)) (now (args .lead)) (args .n) (entry .pre .0) (entry .pre .1) (entry .pre .2) (args .k) (entry .pre .3) (by-if1 .if1 .left) _ (c .no-pair2 .ensures),
+    )
 
 pub write-record-spec : {M : Type 1} → statement M
 write-record-spec =
@@ -134,31 +140,25 @@ write-record-spec =
     (tie.spec
     mul-m
     shared-slice-read-m
-    sub-write-first
-    write-first-requires
+    sub-treat-pair
+    treat-pair-requires
+    put-record-requires
     same-length
     same-length-2
     same-length-3
     returns
     mul-f
     shared-slice-read-f
-    sub-write-last
-    write-last-requires
+    sub-treat-pair-2
+    treat-pair-requires-2
+    put-record-requires-2
     no-pair-requires
     same-length-4
     same-length-5
     same-length-6
     returns-2
-    mul-start
-    shared-slice-read-start
-    add-start
-    add-end
-    mul-end
-    shared-slice-read-end
-    sub-put-record
-    part-put-record-start
-    part-put-record-end
-    put-record-requires
+    record-at-requires
+    put-record-requires-3
     no-pair-requires-2
     same-length-7
     returns-3)
