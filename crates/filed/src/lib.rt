@@ -143,9 +143,9 @@ fn put_trailer(filed: &[u8], p: usize, growth: CorrectionStats, out: &mut [u8])
     ensures { λ _. ⌜ now (out .exit) ≡ splice (now (out .entry)) p (p + 50) (stamped (part (now (filed .entry)) p (p + 50)) growth) ⌝ }
 {
     let mut t = [0u8; 50];
-    group_applying::copy(&mut t, &filed[p..p + filed_trailer::SIZE]);
+    bytes::copy(&filed[p..p + filed_trailer::SIZE], &mut t);
     filed_trailer::stamp(&mut t, growth);
-    group_applying::copy(&mut out[p..p + filed_trailer::SIZE], &t);
+    bytes::copy(&t, &mut out[p..p + filed_trailer::SIZE]);
 }
 
 // A raw filed group corrected into `out`: the frames, and then the trailer.

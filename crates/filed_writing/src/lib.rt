@@ -94,8 +94,8 @@ fn treat_copies(
 {
     let n = first.len();
     let m = second.len();
-    group_applying::copy(&mut left[0..n], first);
-    group_applying::copy(&mut right[0..m], second);
+    bytes::copy(first, &mut left[0..n]);
+    bytes::copy(second, &mut right[0..m]);
     treat(&mut left[0..n], &mut right[0..m], w)
 }
 
@@ -137,7 +137,7 @@ fn put_record(begins: &[usize], k: usize, x: &[u8], out: &mut [u8])
     let start = begins[k] + 4;
     let end = begins[k + 1];
     let size = end - start;
-    group_applying::copy(&mut out[start..end], &x[0..size]);
+    bytes::copy(&x[0..size], &mut out[start..end]);
 }
 
 // Writes record k as it is in the corrected group. Its pair counts where the first is written.
@@ -195,7 +195,7 @@ pub fn write_all(
     let mut k: usize = 0;
     while k < n {
         let begin = begins[k];
-        group_applying::copy(&mut out[begin..begin + 4], &s[begin..begin + 4]);
+        bytes::copy(&s[begin..begin + 4], &mut out[begin..begin + 4]);
         let one = write_record(s, begins, n, mate, lead, k, w, left, right, out);
         let growth = one.stats;
         pairs += one.pairs;

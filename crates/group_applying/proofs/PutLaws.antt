@@ -1,10 +1,11 @@
 -- A pair call on two parts of a list, the second copied out to room and back.
 use Prim.Native.Nat.{ℕ, _+_, _-_, _≤_}
 use mathlib.Core.Path.{_≡_, refl, sym, _∙_, ap, ap₂}
-use mathlib.Core.List.{List}
+use mathlib.Core.List.{List, _++_, append-nil}
 use native.Mathlib.Omega.{arith}
 use borrow.Rule.Slice.PartMut.{same-len-mid}
-use lib.ListN.{length}
+use lib.ListN.{length, take, drop}
+use lib.Seq.{take-length, drop-length}
 use Rattle.stats.specs.Counts.{zeroed}
 use Rattle.strategy.specs.declared.Strategies.{Strategies}
 use Rattle.positions.specs.Step.{State, state}
@@ -14,6 +15,16 @@ use Rattle.group_frames.specs.Part.{part, splice}
 use Rattle.group_frames.proofs.PartLaws.{length-part, part-put}
 use Rattle.stats.specs.declared.CorrectionStats.{CorrectionStats}
 use Rattle.group_applying.specs.Within.{callIn, Within, BothPut}
+
+-- a list copied over one of its length
+pub copied-over : (xs ys : List ℕ) → length ys ≡ length xs → take (length xs) xs ++ drop (length xs) ys ≡ xs
+copied-over xs ys e = ap₂ _++_ (take-length xs) (ap (λ (n : ℕ). drop n ys) (sym e) ∙ drop-length ys) ∙ append-nil xs
+
+-- the front of the room is as long as the second part
+pub room-long : (s room : List ℕ) (a e b h : ℕ) → Within s (length room) a e b h → length (part room 0 (h - b)) ≡ length (part s b h)
+room-long s room a e b h k =
+    let z : h - b - 0 ≡ h - b = omega arith in
+    length-part room 0 (h - b) (omega arith) (k .room) ∙ z ∙ sym (length-part s b h (k .order₂) (k .inside₂))
 
 module _ (w : Strategies) (s room : List ℕ) (a e b h : ℕ) (k : Within s (length room) a e b h) (c : List ℕ) (copied : c ≡ part s b h) where
   size : length c ≡ h - b - 0

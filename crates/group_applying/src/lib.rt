@@ -31,18 +31,6 @@ fn overlap_of(a: Answer) -> usize
     }
 }
 
-// Copies bytes to a part of the same length.
-pub fn copy(to: &mut [u8], from: &[u8])
-    requires { ⌜ length (now to) ≡ length (now from) ⌝ }
-    ensures { λ _. ⌜ now (to .exit) ≡ now (from .entry) ⌝ }
-{
-    let mut i = 0;
-    while i < from.len() {
-        to[i] = from[i];
-        i += 1;
-    }
-}
-
 // The pair call on two parts of a list, its counts begun at 0. The second is copied out for it, and
 // back.
 fn apply_parts(
@@ -58,14 +46,14 @@ fn apply_parts(
     ensures { λ r. ⌜ BothPut w (now (buf .entry)) start end from to (now (buf .exit)) r ⌝ }
 {
     let n = to - from;
-    copy(&mut room[0..n], &buf[from..to]);
+    bytes::copy(&buf[from..to], &mut room[0..n]);
     let called = pair::call(
         &mut buf[start..end],
         &mut room[0..n],
         w,
         CorrectionStats::new(),
     );
-    copy(&mut buf[from..to], &room[0..n]);
+    bytes::copy(&room[0..n], &mut buf[from..to]);
     called
 }
 

@@ -1,18 +1,17 @@
 -- `filed::put_trailer` meets its contract. Assumes nothing.
 use Prim.Native.Nat.{ℕ, _+_}
-use mathlib.Core.Path.{ap, _∙_}
+use mathlib.Core.Path.{_≡_, ap, _∙_}
 use mathlib.Core.List.{List}
-use Rattle.group_frames.specs.Part.{splice}
+use Rattle.group_frames.specs.Part.{part, splice}
+use Rattle.group_frames.proofs.PartLaws.{length-part}
+use Rattle.group_applying.proofs.PutLaws.{copied-over}
 use Rattle.filed_trailer.specs.Trailer.{stamped}
+use native.Mathlib.Omega.{arith}
 use denote.Ref.{now}
 use borrow.Author.Needs.{needs}
 use Rattle.filed.proofs.put_trailer.Statement.{statement}
 use Rattle.filed.proofs.put_trailer.Tie as tie
-use Rattle.group_applying.proofs.copy.Reads as copy-reads
 use Rattle.filed_trailer.proofs.stamp.Reads as stamp-reads
-
-slice-aggregate-copy : tie.Need-slice-aggregate-copy
-slice-aggregate-copy c = search needs
 
 add-copy : tie.Need-add-copy
 add-copy c = search needs
@@ -26,6 +25,9 @@ part-copy-start c = search needs
 part-copy-end : tie.Need-part-copy-end
 part-copy-end c = search needs
 
+slice-aggregate-copy : tie.Need-slice-aggregate-copy
+slice-aggregate-copy c = search needs
+
 copy-requires : tie.Need-copy-requires
 copy-requires c κs = search needs
 
@@ -34,6 +36,9 @@ slice-aggregate-stamp c = search needs
 
 stamp-requires : tie.Need-stamp-requires
 stamp-requires c κs = search needs
+
+slice-aggregate-copy-2 : tie.Need-slice-aggregate-copy-2
+slice-aggregate-copy-2 c = search needs
 
 add-copy-2 : tie.Need-add-copy-2
 add-copy-2 c = search needs
@@ -46,9 +51,6 @@ part-copy-start-2 c = search needs
 
 part-copy-end-2 : tie.Need-part-copy-end-2
 part-copy-end-2 c = search needs
-
-slice-aggregate-copy-2 : tie.Need-slice-aggregate-copy-2
-slice-aggregate-copy-2 c = search needs
 
 copy-requires-2 : tie.Need-copy-requires-2
 copy-requires-2 c κs = search needs
@@ -63,26 +65,29 @@ returns c =
     let by-copy = by-stamp .before .before .before in
     let entry = by-copy .before .before .before .before .before in
     let args = entry .args in
-    ap (λ (x : List ℕ). splice (now (args .out)) (args .p) (args .p + 50) x)
-    ((by-copy2 .copy2 .ensures) ∙ (by-stamp .stamp .ensures) ∙ ap (λ (x : List ℕ). stamped x (args .growth)) (by-copy .copy .ensures))
+    let trailer = part (now (args .filed)) (args .p) (args .p + 50) in
+    let given : by-copy .copy .last .1 .0 ≡ trailer = by-copy .copy .ensures .1 ∙ copied-over trailer _ (omega (arith, length-part (now (args .filed)) (args .p) (args .p + 50) (omega arith) (entry .pre .0))) in
+    ap (splice (now (args .out)) (args .p) (args .p + 50))
+    (by-copy2 .copy2 .ensures .1 ∙ copied-over _ _ (omega (arith, length-part (now (args .out)) (args .p) (args .p + 50) (omega arith) (entry .pre .1)))
+    ∙ by-stamp .stamp .ensures ∙ ap (λ (x : List ℕ). stamped x (args .growth)) given)
 
 pub put-trailer-spec : {M : Type 1} → statement M
 put-trailer-spec =
     tie.close
     (tie.spec
-    slice-aggregate-copy
     add-copy
     sub-copy
     part-copy-start
     part-copy-end
+    slice-aggregate-copy
     copy-requires
     slice-aggregate-stamp
     stamp-requires
+    slice-aggregate-copy-2
     add-copy-2
     sub-copy-2
     part-copy-start-2
     part-copy-end-2
-    slice-aggregate-copy-2
     copy-requires-2
     same-length
     returns)

@@ -4,6 +4,7 @@ use mathlib.Core.Path.{_≡_, _∙_, ap}
 use lib.ListN.{take}
 use Rattle.group_frames.specs.Part.{splice}
 use Rattle.group_applying.specs.Within.{startIn, endIn}
+use Rattle.group_applying.proofs.PutLaws.{copied-over}
 use native.Mathlib.Omega.{arith}
 use denote.Ref.{now}
 use borrow.Author.Needs.{needs}
@@ -58,13 +59,15 @@ same-length c = search needs
 returns : tie.Need-returns
 returns c =
     let by-copy = c .before .before in
-    let entry = by-copy .before .before .before .before .before .before .before .before in
+    let by-copy-arg2 = by-copy .before in
+    let by-copy-arg = by-copy-arg2 .before in
+    let entry = by-copy-arg .before .before .before .before .before .before in
     let args = entry .args in
     let begins = now (args .begins) in
     let start = startIn begins (args .k) in
     let end = endIn begins (args .k) in
     let size : end - start - 0 ≡ end - start = omega arith in
-    ap (splice (now (args .out)) start end) (by-copy .copy .ensures ∙ ap (λ (z : ℕ). take z (now (args .x))) size)
+    ap (splice (now (args .out)) start end) (by-copy .copy .ensures .1 ∙ copied-over _ _ (omega (arith, by-copy-arg .copy-arg .given, by-copy-arg2 .copy-arg2 .given)) ∙ ap (λ (z : ℕ). take z (now (args .x))) size)
 
 pub put-record-spec : {M : Type 1} → statement M
 put-record-spec =

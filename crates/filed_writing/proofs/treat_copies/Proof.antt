@@ -1,10 +1,15 @@
 -- `filed_writing::treat_copies` meets its contract. Assumes nothing.
+use mathlib.Core.Path.{_≡_, _∙_}
+use lib.ListN.{length}
+use Rattle.group_frames.specs.Part.{part}
+use Rattle.group_frames.proofs.PartLaws.{length-part}
+use Rattle.group_applying.proofs.PutLaws.{copied-over}
 use Rattle.filed_writing.proofs.CopyLaws.{copied}
+use native.Mathlib.Omega.{arith}
 use denote.Ref.{now}
 use borrow.Author.Needs.{needs}
 use Rattle.filed_writing.proofs.treat_copies.Statement.{statement}
 use Rattle.filed_writing.proofs.treat_copies.Tie as tie
-use Rattle.group_applying.proofs.copy.Reads as copy-reads
 use Rattle.filed_writing.proofs.treat.Reads as treat-reads
 
 sub-copy : tie.Need-sub-copy
@@ -59,7 +64,20 @@ same-length-2 : tie.Need-same-length-2
 same-length-2 c = search needs
 
 returns : tie.Need-returns
-returns c = copied (c .before .before .before .before .before .before .before .before .before .before .before .before .before .before .before .before .before .before .before .args .w) (now (c .before .before .before .before .before .before .before .before .before .before .before .before .before .before .before .before .before .before .before .args .first)) (now (c .before .before .before .before .before .before .before .before .before .before .before .before .before .before .before .before .before .before .before .args .second)) (now (c .before .before .before .before .before .before .before .before .before .before .before .before .before .before .before .before .before .before .before .args .left)) (now (c .before .before .before .before .before .before .before .before .before .before .before .before .before .before .before .before .before .before .before .args .right)) (c .before .before .before .before .before .before .before .before .before .before .before .before .before .copy .last .0) (c .before .before .before .before .before .before .before .before .before .copy2 .last .0) (c .before .before .before .before .before .before .before .before .before .before .before .before .before .before .before .before .before .before .before .pre .0) (c .before .before .before .before .before .before .before .before .before .before .before .before .before .before .before .before .before .before .before .pre .1) (c .before .before .before .before .before .before .before .before .before .before .before .before .before .copy .ensures) (c .before .before .before .before .before .before .before .before .before .copy2 .ensures) (c .before .before .before .before .treat .result) (c .before .before .before .before .treat .last .0) (c .before .before .before .before .treat .last .1 .0) (c .before .before .before .before .treat .ensures) (c .before .before .before .before .treat .kept .0) (c .before .before .before .before .treat .kept .1 .0)
+returns c =
+    let by-treat = c .before .before .before .before in
+    let by-copy2 = by-treat .before .before .before .before .before in
+    let by-copy = by-copy2 .before .before .before .before in
+    let entry = by-copy .before .before .before .before .before .before in
+    let args = entry .args in
+    let first = now (args .first) in
+    let second = now (args .second) in
+    let left = now (args .left) in
+    let right = now (args .right) in
+    let same₁ : by-copy .copy .last .1 .0 ≡ first = by-copy .copy .ensures .1 ∙ copied-over first (part left 0 (length first)) (omega (arith, length-part left 0 (length first) (omega arith) (entry .pre .0))) in
+    let same₂ : by-copy2 .copy2 .last .1 .0 ≡ second = by-copy2 .copy2 .ensures .1 ∙ copied-over second (part right 0 (length second)) (omega (arith, length-part right 0 (length second) (omega arith) (entry .pre .1))) in
+    copied (args .w) first second left right _ _ (entry .pre .0) (entry .pre .1) same₁ same₂ (by-treat .treat .result) (by-treat .treat .last .0) (by-treat .treat .last .1 .0)
+    (by-treat .treat .ensures) (by-treat .treat .kept .0) (by-treat .treat .kept .1 .0)
 
 pub treat-copies-spec : {M : Type 1} → statement M
 treat-copies-spec =

@@ -3,6 +3,7 @@ use mathlib.Core.Path.{_≡_, refl, _∙_}
 use Prim.Native.Nat.{_-_, _≤_}
 use lib.ListN.{length}
 use Rattle.group_applying.proofs.ApplyLaws.{rest}
+use Rattle.group_applying.proofs.PutLaws.{copied-over}
 use Rattle.filed_writing.proofs.LeadLaws.{mated-pairing}
 use Rattle.filed_writing.proofs.TurnLaws.{Counting, counting-start, step, Filling, filling-start, size-source, size-room, sizes-long, copied-ends, copied-front, filling-next, written-all}
 use borrow.Author.Needs.{needs}
@@ -29,8 +30,13 @@ new-requires c κs = search needs
 loop-holds : tie.Need-loop-holds Inv-loop μ-loop
 loop-holds c =
     let entry = c .before .before .before .before .before .before .before .before .before .before .before .before in
-    let args = entry .args in
-    (filling-start (args .w) (now (args .s)) (args .n) (now (args .out)), counting-start (args .w) (now (args .s)) (args .n) (c .new .result) (entry .pre .0 .few) (c .new .ensures), omega arith, refl, refl)
+    let args = entry .args in (
+      filling-start (args .w) (now (args .s)) (args .n) (now (args .out)),
+      counting-start (args .w) (now (args .s)) (args .n) (c .new .result) (entry .pre .0 .few) (c .new .ensures),
+      omega arith,
+      refl,
+      refl,
+    )
 
 mul-begin : tie.Need-mul-begin Inv-loop μ-loop
 mul-begin c =
@@ -44,10 +50,11 @@ shared-slice-read-begin c =
 
 add-copy : tie.Need-add-copy Inv-loop μ-loop
 add-copy c =
-    let entry = c .before .before .before .before .before .before .before .before .before .before .before .before .before .before .before in
+    let turn = c .before .before in
+    let entry = turn .before .before .before .before .before .before .before .before .before .before .before .before .before in
     let args = entry .args in
-    let loop = c .before .before .loop in
-    omega (arith, size-source (args .w) (now (args .s)) (now (args .begins)) (args .n) (entry .pre .0) (now (args .out)) (entry .pre .5) (loop .k) (c .before .loop-test .taken) (loop .out) (loop .inv .0))
+    let loop = turn .loop in
+    omega (arith, size-source (args .w) _ _ (args .n) (entry .pre .0) _ (entry .pre .5) (loop .k) (c .before .loop-test .taken) (loop .out) (loop .inv .0))
 
 sub-copy : tie.Need-sub-copy Inv-loop μ-loop
 sub-copy c = omega arith
@@ -57,17 +64,20 @@ part-copy-start c = omega arith
 
 part-copy-end : tie.Need-part-copy-end Inv-loop μ-loop
 part-copy-end c =
-    let entry = c .before .before .before .before .before .before .before .before .before .before .before .before .before .before .before in
+    let turn = c .before .before in
+    let entry = turn .before .before .before .before .before .before .before .before .before .before .before .before .before in
     let args = entry .args in
-    let loop = c .before .before .loop in
-    size-room (args .w) (now (args .s)) (now (args .begins)) (args .n) (entry .pre .0) (now (args .out)) (entry .pre .5) (loop .k) (c .before .loop-test .taken) (loop .out) (loop .inv .0)
+    let loop = turn .loop in
+    size-source (args .w) _ _ (args .n) (entry .pre .0) _ (entry .pre .5) (loop .k) (c .before .loop-test .taken) (loop .out) (loop .inv .0)
 
 add-copy-2 : tie.Need-add-copy-2 Inv-loop μ-loop
 add-copy-2 c =
-    let entry = c .before .before .before .before .before .before .before .before .before .before .before .before .before .before .before .before in
+    let by-loop-test = c .before .before in
+    let turn = by-loop-test .before in
+    let entry = turn .before .before .before .before .before .before .before .before .before .before .before .before .before in
     let args = entry .args in
-    let loop = c .before .before .before .loop in
-    omega (arith, size-source (args .w) (now (args .s)) (now (args .begins)) (args .n) (entry .pre .0) (now (args .out)) (entry .pre .5) (loop .k) (c .before .before .loop-test .taken) (loop .out) (loop .inv .0))
+    let loop = turn .loop in
+    omega (arith, size-source (args .w) _ _ (args .n) (entry .pre .0) _ (entry .pre .5) (loop .k) (by-loop-test .loop-test .taken) (loop .out) (loop .inv .0))
 
 sub-copy-2 : tie.Need-sub-copy-2 Inv-loop μ-loop
 sub-copy-2 c = omega arith
@@ -77,42 +87,71 @@ part-copy-start-2 c = omega arith
 
 part-copy-end-2 : tie.Need-part-copy-end-2 Inv-loop μ-loop
 part-copy-end-2 c =
-    let entry = c .before .before .before .before .before .before .before .before .before .before .before .before .before .before .before .before in
+    let by-loop-test = c .before .before in
+    let turn = by-loop-test .before in
+    let entry = turn .before .before .before .before .before .before .before .before .before .before .before .before .before in
     let args = entry .args in
-    let loop = c .before .before .before .loop in
-    size-source (args .w) (now (args .s)) (now (args .begins)) (args .n) (entry .pre .0) (now (args .out)) (entry .pre .5) (loop .k) (c .before .before .loop-test .taken) (loop .out) (loop .inv .0)
+    let loop = turn .loop in
+    size-room (args .w) _ _ (args .n) (entry .pre .0) _ (entry .pre .5) (loop .k) (by-loop-test .loop-test .taken) (loop .out) (loop .inv .0)
 
 copy-requires : tie.Need-copy-requires Inv-loop μ-loop
 copy-requires c κs =
-    let entry = c .before .before .before .before .before .before .before .before .before .before .before .before .before .before .before .before .before in
+    let by-loop-test = c .before .before .before in
+    let turn = by-loop-test .before in
+    let entry = turn .before .before .before .before .before .before .before .before .before .before .before .before .before in
     let args = entry .args in
-    let loop = c .before .before .before .before .loop in
-    sizes-long (args .w) (now (args .s)) (now (args .begins)) (args .n) (entry .pre .0) (now (args .out)) (entry .pre .5) (loop .k) (c .before .before .before .loop-test .taken) (loop .out) (loop .inv .0)
+    let loop = turn .loop in
+    omega (arith, sizes-long (args .w) _ _ (args .n) (entry .pre .0) _ (entry .pre .5) (loop .k) (by-loop-test .loop-test .taken) (loop .out) (loop .inv .0))
 
 write-record-requires : tie.Need-write-record-requires Inv-loop μ-loop
 write-record-requires c κs =
-    let entry = c .before .before .before .before .before .before .before .before .before .before .before .before .before .before .before .before .before .before .before .before .before .before .before .before in
+    let by-copy = c .before .before .before .before .before .before in
+    let by-loop-test = by-copy .before .before .before .before in
+    let turn = by-loop-test .before in
+    let by-enter-leads = turn .before .before .before .before in
+    let entry = by-enter-leads .before .before .before .before .before .before .before .before .before in
     let args = entry .args in
-    let loop = c .before .before .before .before .before .before .before .before .before .before .before .loop in
-    (entry .pre .0, entry .pre .1, c .before .before .before .before .before .before .before .before .before .before .before .before .before .before .before .enter-leads .ensures, c .before .before .before .before .before .before .before .before .before .before .loop-test .taken, (λ j h. omega (arith, loop .inv .3, entry .pre .3 j h)), (λ j h. omega (arith, loop .inv .4, entry .pre .4 j h)), copied-ends (args .w) (now (args .s)) (now (args .begins)) (args .n) (entry .pre .0) (now (args .out)) (entry .pre .5) (loop .k) (c .before .before .before .before .before .before .before .before .before .before .loop-test .taken) (loop .out) (loop .inv .0) (c .before .before .before .before .before .before .copy .last .0) (c .before .before .before .before .before .before .copy .ensures), copied-front (args .w) (now (args .s)) (now (args .begins)) (args .n) (entry .pre .0) (now (args .out)) (entry .pre .5) (loop .k) (c .before .before .before .before .before .before .before .before .before .before .loop-test .taken) (loop .out) (loop .inv .0) (c .before .before .before .before .before .before .copy .last .0) (c .before .before .before .before .before .before .copy .ensures))
+    let loop = turn .loop in
+    let same = by-copy .copy .ensures .1 ∙ copied-over _ _ (sizes-long (args .w) _ _ (args .n) (entry .pre .0) _ (entry .pre .5) (loop .k) (by-loop-test .loop-test .taken) (loop .out) (loop .inv .0)) in (
+      entry .pre .0,
+      entry .pre .1,
+      by-enter-leads .enter-leads .ensures,
+      by-loop-test .loop-test .taken,
+      (λ j h. omega (arith, loop .inv .3, entry .pre .3 j h)),
+      (λ j h. omega (arith, loop .inv .4, entry .pre .4 j h)),
+      copied-ends (args .w) _ _ (args .n) (entry .pre .0) _ (entry .pre .5) (loop .k) (by-loop-test .loop-test .taken) (loop .out) (loop .inv .0) _ same,
+      copied-front (args .w) _ _ (args .n) (entry .pre .0) _ (entry .pre .5) (loop .k) (by-loop-test .loop-test .taken) (loop .out) (loop .inv .0) _ same,
+    )
 
 add-pairs : tie.Need-add-pairs Inv-loop μ-loop
 add-pairs c =
-    let args = c .before .before .before .before .before .before .before .before .before .before .before .before .before .before .before .before .before .before .before .before .before .before .before .before .before .before .before .before .before .before .before .before .before .args in
-    let loop = c .before .before .before .before .before .before .before .before .before .before .before .before .before .before .before .before .before .before .before .before .loop in
-    omega (arith, (step (args .w) (now (args .s)) (args .n) (loop .k) (loop .sum) (loop .pairs) (loop .overlapping) (loop .inv .1) (c .before .before .before .before .before .before .before .before .before .before .before .before .before .before .before .before .before .before .before .loop-test .taken) (c .before .before .before .before .before .before .before .before .write-record .result) (c .before .before .before .before .before .before .before .before .write-record .ensures .1)) .pairs)
+    let by-write-record = c .before .before .before .before .before .before .before .before in
+    let by-loop-test = by-write-record .before .before .before .before .before .before .before .before .before .before .before in
+    let turn = by-loop-test .before in
+    let entry = turn .before .before .before .before .before .before .before .before .before .before .before .before .before in
+    let args = entry .args in
+    let loop = turn .loop in
+    omega (arith, (step (args .w) _ (args .n) (loop .k) (loop .sum) (loop .pairs) (loop .overlapping) (loop .inv .1) (by-loop-test .loop-test .taken) (by-write-record .write-record .result) (by-write-record .write-record .ensures .1)) .pairs)
 
 add-overlapping : tie.Need-add-overlapping Inv-loop μ-loop
 add-overlapping c =
-    let args = c .before .before .before .before .before .before .before .before .before .before .before .before .before .before .before .before .before .before .before .before .before .before .before .before .before .before .before .before .before .before .before .before .before .before .args in
-    let loop = c .before .before .before .before .before .before .before .before .before .before .before .before .before .before .before .before .before .before .before .before .before .loop in
-    omega (arith, (step (args .w) (now (args .s)) (args .n) (loop .k) (loop .sum) (loop .pairs) (loop .overlapping) (loop .inv .1) (c .before .before .before .before .before .before .before .before .before .before .before .before .before .before .before .before .before .before .before .before .loop-test .taken) (c .before .before .before .before .before .before .before .before .before .write-record .result) (c .before .before .before .before .before .before .before .before .before .write-record .ensures .1)) .overlapping)
+    let by-write-record = c .before .before .before .before .before .before .before .before .before in
+    let by-loop-test = by-write-record .before .before .before .before .before .before .before .before .before .before .before in
+    let turn = by-loop-test .before in
+    let entry = turn .before .before .before .before .before .before .before .before .before .before .before .before .before in
+    let args = entry .args in
+    let loop = turn .loop in
+    omega (arith, (step (args .w) _ (args .n) (loop .k) (loop .sum) (loop .pairs) (loop .overlapping) (loop .inv .1) (by-loop-test .loop-test .taken) (by-write-record .write-record .result) (by-write-record .write-record .ensures .1)) .overlapping)
 
 plus-requires : tie.Need-plus-requires Inv-loop μ-loop
 plus-requires c κs =
-    let args = c .before .before .before .before .before .before .before .before .before .before .before .before .before .before .before .before .before .before .before .before .before .before .before .before .before .before .before .before .before .before .before .before .before .before .args in
-    let loop = c .before .before .before .before .before .before .before .before .before .before .before .before .before .before .before .before .before .before .before .before .before .loop in
-    (step (args .w) (now (args .s)) (args .n) (loop .k) (loop .sum) (loop .pairs) (loop .overlapping) (loop .inv .1) (c .before .before .before .before .before .before .before .before .before .before .before .before .before .before .before .before .before .before .before .before .loop-test .taken) (c .before .before .before .before .before .before .before .before .before .write-record .result) (c .before .before .before .before .before .before .before .before .before .write-record .ensures .1)) .adds
+    let by-write-record = c .before .before .before .before .before .before .before .before .before in
+    let by-loop-test = by-write-record .before .before .before .before .before .before .before .before .before .before .before in
+    let turn = by-loop-test .before in
+    let entry = turn .before .before .before .before .before .before .before .before .before .before .before .before .before in
+    let args = entry .args in
+    let loop = turn .loop in
+    (step (args .w) _ (args .n) (loop .k) (loop .sum) (loop .pairs) (loop .overlapping) (loop .inv .1) (by-loop-test .loop-test .taken) (by-write-record .write-record .result) (by-write-record .write-record .ensures .1)) .adds
 
 add-k : tie.Need-add-k Inv-loop μ-loop
 add-k c =
@@ -124,10 +163,21 @@ loop-less c = omega (arith, c .before .before .before .before .before .before .b
 
 loop-again : tie.Need-loop-again Inv-loop μ-loop
 loop-again c =
-    let entry = c .before .before .before .before .before .before .before .before .before .before .before .before .before .before .before .before .before .before .before .before .before .before .before .before .before .before .before .before .before .before .before .before .before .before .before in
+    let by-write-record = c .before .before .before .before .before .before .before .before .before .before in
+    let by-copy = by-write-record .before .before .before .before .before .before .before in
+    let by-loop-test = by-copy .before .before .before .before in
+    let turn = by-loop-test .before in
+    let entry = turn .before .before .before .before .before .before .before .before .before .before .before .before .before in
     let args = entry .args in
-    let loop = c .before .before .before .before .before .before .before .before .before .before .before .before .before .before .before .before .before .before .before .before .before .before .loop in
-    (filling-next (args .w) (now (args .s)) (now (args .begins)) (args .n) (entry .pre .0) (now (args .out)) (entry .pre .5) (loop .k) (c .before .before .before .before .before .before .before .before .before .before .before .before .before .before .before .before .before .before .before .before .before .loop-test .taken) (loop .out) (loop .inv .0) (c .before .before .before .before .before .before .before .before .before .before .before .before .before .before .before .before .before .copy .last .0) (c .before .before .before .before .before .before .before .before .before .before .before .before .before .before .before .before .before .copy .ensures) (c .before .before .before .before .before .before .before .before .before .before .write-record .last .1 .1 .1 .1 .1 .1 .1 .1 .1 .0) (c .before .before .before .before .before .before .before .before .before .before .write-record .ensures .0), rw (c .plus .ensures) ((step (args .w) (now (args .s)) (args .n) (loop .k) (loop .sum) (loop .pairs) (loop .overlapping) (loop .inv .1) (c .before .before .before .before .before .before .before .before .before .before .before .before .before .before .before .before .before .before .before .before .before .loop-test .taken) (c .before .before .before .before .before .before .before .before .before .before .write-record .result) (c .before .before .before .before .before .before .before .before .before .before .write-record .ensures .1)) .next), omega (arith, c .before .before .before .before .before .before .before .before .before .before .before .before .before .before .before .before .before .before .before .before .before .loop-test .taken), c .before .before .before .before .before .before .before .before .before .before .write-record .kept .1 .1 .1 .1 .1 .1 .1 .0 ∙ loop .inv .3, c .before .before .before .before .before .before .before .before .before .before .write-record .kept .1 .1 .1 .1 .1 .1 .1 .1 .0 ∙ loop .inv .4)
+    let loop = turn .loop in
+    let same = by-copy .copy .ensures .1 ∙ copied-over _ _ (sizes-long (args .w) _ _ (args .n) (entry .pre .0) _ (entry .pre .5) (loop .k) (by-loop-test .loop-test .taken) (loop .out) (loop .inv .0)) in
+    let kept = by-write-record .write-record .kept .1 .1 .1 .1 .1 .1 .1 in (
+      filling-next (args .w) _ _ (args .n) (entry .pre .0) _ (entry .pre .5) (loop .k) (by-loop-test .loop-test .taken) (loop .out) (loop .inv .0) _ same _ (by-write-record .write-record .ensures .0),
+      rw (c .plus .ensures) ((step (args .w) _ (args .n) (loop .k) (loop .sum) (loop .pairs) (loop .overlapping) (loop .inv .1) (by-loop-test .loop-test .taken) (by-write-record .write-record .result) (by-write-record .write-record .ensures .1)) .next),
+      omega (arith, by-loop-test .loop-test .taken),
+      kept .0 ∙ loop .inv .3,
+      kept .1 .0 ∙ loop .inv .4,
+    )
 
 same-length : tie.Need-same-length Inv-loop μ-loop
 same-length c = c .before .before .before .before .before .enter-leads .kept .1 .1 .0

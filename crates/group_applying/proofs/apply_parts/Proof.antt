@@ -1,5 +1,9 @@
 -- `group_applying::apply_parts` meets its contract. Assumes nothing.
-use Rattle.group_applying.proofs.PutLaws.{put-as}
+use native.Mathlib.Omega.{arith}
+use Prim.Native.Nat.{_-_}
+use mathlib.Core.Path.{_≡_, _∙_}
+use Rattle.group_frames.specs.Part.{part}
+use Rattle.group_applying.proofs.PutLaws.{copied-over, room-long, put-as}
 use denote.Ref.{now}
 use borrow.Author.Needs.{needs}
 use Rattle.group_applying.proofs.apply_parts.Statement.{statement}
@@ -82,9 +86,24 @@ same-length-2 c = search needs
 
 returns : tie.Need-returns
 returns c =
-    let entry = c .before .before .before .before .before .before .before .before .before .before .before .before .before .before .before .before .before .before .before .before .before .before in
+    let by-copy2 = c .before .before in
+    let by-copy-arg4 = by-copy2 .before in
+    let by-copy-arg3 = by-copy-arg4 .before in
+    let by-call = by-copy-arg3 .before .before .before .before .before .before in
+    let by-new = by-call .before in
+    let by-copy = by-new .before .before .before .before .before in
+    let entry = by-copy .before .before .before .before .before .before in
     let args = entry .args in
-    put-as (args .w) (now (args .buf)) (now (args .room)) (args .start) (args .end) (args .from) (args .to) (entry .pre) (c .before .before .before .before .before .before .before .before .before .before .before .before .before .before .before .before .copy .last .0) (c .before .before .before .before .before .before .before .before .before .before .before .before .before .before .before .before .copy .ensures) (c .before .before .before .before .before .before .before .before .before .before .call .result) (c .before .before .before .before .before .before .before .before .before .before .before .new .result) (c .before .before .before .before .before .before .before .before .before .before .call .last .0) (c .before .before .before .before .before .before .before .before .before .before .call .last .1 .0) (c .before .before .copy2 .last .0) (c .before .before .before .before .before .before .before .before .before .before .before .new .ensures) (c .before .before .before .before .before .before .before .before .before .before .call .ensures) (c .before .before .before .before .before .before .before .before .before .before .call .kept .1 .0) (c .before .before .copy2 .ensures)
+    let n = args .to - args .from in
+    let buf = now (args .buf) in
+    let room = now (args .room) in
+    let call = by-call .call in
+    let out : by-copy .copy .last .1 .0 ≡ part buf (args .from) (args .to) =
+    by-copy .copy .ensures .1 ∙ copied-over (part buf (args .from) (args .to)) (part room 0 n)
+    (room-long buf room (args .start) (args .end) (args .from) (args .to) (entry .pre)) in
+    put-as (args .w) buf room (args .start) (args .end) (args .from) (args .to) (entry .pre)
+    (by-copy .copy .last .1 .0) out (call .result) (by-new .new .result) (call .last .0) (call .last .1 .0) (by-copy2 .copy2 .last .1 .0)
+    (by-new .new .ensures) (call .ensures) (call .kept .1 .0) (by-copy2 .copy2 .ensures .1 ∙ copied-over _ _ (omega (arith, by-copy-arg3 .copy-arg3 .given, by-copy-arg4 .copy-arg4 .given)))
 
 pub apply-parts-spec : {M : Type 1} → statement M
 apply-parts-spec =
