@@ -65,11 +65,15 @@ returns c =
     let by-copy = by-stamp .before .before .before in
     let entry = by-copy .before .before .before .before .before in
     let args = entry .args in
-    let trailer = part (now (args .filed)) (args .p) (args .p + 50) in
-    let given : by-copy .copy .last .1 .0 ≡ trailer = by-copy .copy .ensures .1 ∙ copied-over trailer _ (omega (arith, length-part (now (args .filed)) (args .p) (args .p + 50) (omega arith) (entry .pre .0))) in
-    ap (splice (now (args .out)) (args .p) (args .p + 50))
-    (by-copy2 .copy2 .ensures .1 ∙ copied-over _ _ (omega (arith, length-part (now (args .out)) (args .p) (args .p + 50) (omega arith) (entry .pre .1)))
-    ∙ by-stamp .stamp .ensures ∙ ap (λ (x : List ℕ). stamped x (args .growth)) given)
+    let filed = now (args .filed) in
+    let out = now (args .out) in
+    let trailer = part filed (args .p) (args .p + 50) in
+    let given : by-copy .copy .last .1 .0 ≡ trailer = by-copy .copy .ensures .1 ∙ copied-over trailer _
+    (omega (arith, length-part filed (args .p) (args .p + 50) (omega arith) (entry .pre .0))) in
+    ap (splice out (args .p) (args .p + 50))
+    (by-copy2 .copy2 .ensures .1 ∙ copied-over _ _
+    (omega (arith, length-part out (args .p) (args .p + 50) (omega arith) (entry .pre .1))) ∙ by-stamp .stamp .ensures ∙ ap
+    (λ (x : List ℕ). stamped x (args .growth)) given)
 
 pub put-trailer-spec : {M : Type 1} → statement M
 put-trailer-spec =
