@@ -1,4 +1,4 @@
--- `filed_writing::clear` meets its contract. Assumes nothing.
+-- `filed_writing::clear` meets its contract. The loop keeps: the first k entries are 0. The measure is the number of entries left. Assumes nothing.
 use mathlib.Core.Path.{_≡_, refl, _∙_}
 use Prim.Native.Nat.{ℕ, _-_}
 use lib.ListN.{length, length-set}

@@ -1,4 +1,4 @@
--- `filed_writing::enter_leads` meets its contract. Assumes nothing.
+-- `filed_writing::enter_leads` meets its contract. The loop keeps: the table names, for each mate of a record before i, that record, and no other. The measure is the number of records left. Assumes nothing.
 use mathlib.Core.Path.{_≡_, refl, _∙_}
 use Prim.Native.Nat.{_-_, _≤_}
 use lib.ListN.{length, length-set}

@@ -74,10 +74,13 @@ returns c =
     let second = now (args .second) in
     let left = now (args .left) in
     let right = now (args .right) in
-    let same₁ : by-copy .copy .last .1 .0 ≡ first = by-copy .copy .ensures .1 ∙ copied-over first (part left 0 (length first)) (omega (arith, length-part left 0 (length first) (omega arith) (entry .pre .0))) in
-    let same₂ : by-copy2 .copy2 .last .1 .0 ≡ second = by-copy2 .copy2 .ensures .1 ∙ copied-over second (part right 0 (length second)) (omega (arith, length-part right 0 (length second) (omega arith) (entry .pre .1))) in
-    copied (args .w) first second left right _ _ (entry .pre .0) (entry .pre .1) same₁ same₂ (by-treat .treat .result) (by-treat .treat .last .0) (by-treat .treat .last .1 .0)
-    (by-treat .treat .ensures) (by-treat .treat .kept .0) (by-treat .treat .kept .1 .0)
+    let same₁ : by-copy .copy .last .1 .0 ≡ first = by-copy .copy .ensures .1 ∙ copied-over first (part left 0 (length first))
+    (omega (arith, length-part left 0 (length first) (omega arith) (entry .pre .0))) in
+    let same₂ : by-copy2 .copy2 .last .1 .0 ≡ second = by-copy2 .copy2 .ensures .1 ∙ copied-over second (part right 0 (length second))
+    (omega (arith, length-part right 0 (length second) (omega arith) (entry .pre .1))) in
+    copied (args .w) first second left right _ _ (entry .pre .0) (entry .pre .1) same₁ same₂ (by-treat .treat .result)
+    (by-treat .treat .last .0) (by-treat .treat .last .1 .0) (by-treat .treat .ensures) (by-treat .treat .kept .0)
+    (by-treat .treat .kept .1 .0)
 
 pub treat-copies-spec : {M : Type 1} → statement M
 treat-copies-spec =

@@ -1,4 +1,5 @@
--- `filed_writing::write_all` meets its contract. Assumes nothing.
+-- `filed_writing::write_all` meets its contract. The loop keeps: the output begins with the first k frames of the corrected group and is as it came behind
+-- them, and the numbers, with those of the pairs left, are those of all. The measure is the number of records left. Assumes nothing.
 use mathlib.Core.Path.{_≡_, refl, _∙_}
 use Prim.Native.Nat.{_-_, _≤_}
 use lib.ListN.{length}
@@ -112,15 +113,19 @@ write-record-requires c κs =
     let entry = by-enter-leads .before .before .before .before .before .before .before .before .before in
     let args = entry .args in
     let loop = turn .loop in
-    let same = by-copy .copy .ensures .1 ∙ copied-over _ _ (sizes-long (args .w) _ _ (args .n) (entry .pre .0) _ (entry .pre .5) (loop .k) (by-loop-test .loop-test .taken) (loop .out) (loop .inv .0)) in (
+    let same = by-copy .copy .ensures .1 ∙ copied-over _ _
+    (sizes-long (args .w) _ _ (args .n) (entry .pre .0) _ (entry .pre .5) (loop .k) (by-loop-test .loop-test .taken) (loop .out)
+    (loop .inv .0)) in (
       entry .pre .0,
       entry .pre .1,
       by-enter-leads .enter-leads .ensures,
       by-loop-test .loop-test .taken,
       (λ j h. omega (arith, loop .inv .3, entry .pre .3 j h)),
       (λ j h. omega (arith, loop .inv .4, entry .pre .4 j h)),
-      copied-ends (args .w) _ _ (args .n) (entry .pre .0) _ (entry .pre .5) (loop .k) (by-loop-test .loop-test .taken) (loop .out) (loop .inv .0) _ same,
-      copied-front (args .w) _ _ (args .n) (entry .pre .0) _ (entry .pre .5) (loop .k) (by-loop-test .loop-test .taken) (loop .out) (loop .inv .0) _ same,
+      copied-ends (args .w) _ _ (args .n) (entry .pre .0) _ (entry .pre .5) (loop .k) (by-loop-test .loop-test .taken) (loop .out)
+          (loop .inv .0) _ same,
+      copied-front (args .w) _ _ (args .n) (entry .pre .0) _ (entry .pre .5) (loop .k) (by-loop-test .loop-test .taken) (loop .out)
+          (loop .inv .0) _ same,
     )
 
 add-pairs : tie.Need-add-pairs Inv-loop μ-loop
@@ -131,7 +136,11 @@ add-pairs c =
     let entry = turn .before .before .before .before .before .before .before .before .before .before .before .before .before in
     let args = entry .args in
     let loop = turn .loop in
-    omega (arith, (step (args .w) _ (args .n) (loop .k) (loop .sum) (loop .pairs) (loop .overlapping) (loop .inv .1) (by-loop-test .loop-test .taken) (by-write-record .write-record .result) (by-write-record .write-record .ensures .1)) .pairs)
+    omega (
+      arith,
+      (step (args .w) _ (args .n) (loop .k) (loop .sum) (loop .pairs) (loop .overlapping) (loop .inv .1)
+          (by-loop-test .loop-test .taken) (by-write-record .write-record .result) (by-write-record .write-record .ensures .1)) .pairs,
+    )
 
 add-overlapping : tie.Need-add-overlapping Inv-loop μ-loop
 add-overlapping c =
@@ -141,7 +150,11 @@ add-overlapping c =
     let entry = turn .before .before .before .before .before .before .before .before .before .before .before .before .before in
     let args = entry .args in
     let loop = turn .loop in
-    omega (arith, (step (args .w) _ (args .n) (loop .k) (loop .sum) (loop .pairs) (loop .overlapping) (loop .inv .1) (by-loop-test .loop-test .taken) (by-write-record .write-record .result) (by-write-record .write-record .ensures .1)) .overlapping)
+    omega (
+      arith,
+      (step (args .w) _ (args .n) (loop .k) (loop .sum) (loop .pairs) (loop .overlapping) (loop .inv .1)
+          (by-loop-test .loop-test .taken) (by-write-record .write-record .result) (by-write-record .write-record .ensures .1)) .overlapping,
+    )
 
 plus-requires : tie.Need-plus-requires Inv-loop μ-loop
 plus-requires c κs =
@@ -151,15 +164,19 @@ plus-requires c κs =
     let entry = turn .before .before .before .before .before .before .before .before .before .before .before .before .before in
     let args = entry .args in
     let loop = turn .loop in
-    (step (args .w) _ (args .n) (loop .k) (loop .sum) (loop .pairs) (loop .overlapping) (loop .inv .1) (by-loop-test .loop-test .taken) (by-write-record .write-record .result) (by-write-record .write-record .ensures .1)) .adds
+    (step (args .w) _ (args .n) (loop .k) (loop .sum) (loop .pairs) (loop .overlapping) (loop .inv .1) (by-loop-test .loop-test .taken)
+    (by-write-record .write-record .result) (by-write-record .write-record .ensures .1)) .adds
 
 add-k : tie.Need-add-k Inv-loop μ-loop
 add-k c =
-    let entry = c .before .before .before .before .before .before .before .before .before .before .before .before .before .before .before .before .before .before .before .before .before .before .before .before .before .before .before .before .before .before .before .before .before .before .before in
-    omega (arith, entry .pre .0 .few, c .before .before .before .before .before .before .before .before .before .before .before .before .before .before .before .before .before .before .before .before .before .loop-test .taken)
+    let by-loop-test = c .before .before .before .before .before .before .before .before .before .before .before .before .before .before .before .before .before .before .before .before .before in
+    let entry = by-loop-test .before .before .before .before .before .before .before .before .before .before .before .before .before .before in
+    omega (arith, entry .pre .0 .few, by-loop-test .loop-test .taken)
 
 loop-less : tie.Need-loop-less Inv-loop μ-loop
-loop-less c = omega (arith, c .before .before .before .before .before .before .before .before .before .before .before .before .before .before .before .before .before .before .before .before .before .loop-test .taken)
+loop-less c =
+    let by-loop-test = c .before .before .before .before .before .before .before .before .before .before .before .before .before .before .before .before .before .before .before .before .before in
+    omega (arith, by-loop-test .loop-test .taken)
 
 loop-again : tie.Need-loop-again Inv-loop μ-loop
 loop-again c =
@@ -170,13 +187,17 @@ loop-again c =
     let entry = turn .before .before .before .before .before .before .before .before .before .before .before .before .before in
     let args = entry .args in
     let loop = turn .loop in
-    let same = by-copy .copy .ensures .1 ∙ copied-over _ _ (sizes-long (args .w) _ _ (args .n) (entry .pre .0) _ (entry .pre .5) (loop .k) (by-loop-test .loop-test .taken) (loop .out) (loop .inv .0)) in
-    let kept = by-write-record .write-record .kept .1 .1 .1 .1 .1 .1 .1 in (
-      filling-next (args .w) _ _ (args .n) (entry .pre .0) _ (entry .pre .5) (loop .k) (by-loop-test .loop-test .taken) (loop .out) (loop .inv .0) _ same _ (by-write-record .write-record .ensures .0),
-      rw (c .plus .ensures) ((step (args .w) _ (args .n) (loop .k) (loop .sum) (loop .pairs) (loop .overlapping) (loop .inv .1) (by-loop-test .loop-test .taken) (by-write-record .write-record .result) (by-write-record .write-record .ensures .1)) .next),
+    let same = by-copy .copy .ensures .1 ∙ copied-over _ _
+    (sizes-long (args .w) _ _ (args .n) (entry .pre .0) _ (entry .pre .5) (loop .k) (by-loop-test .loop-test .taken) (loop .out)
+    (loop .inv .0)) in (
+      filling-next (args .w) _ _ (args .n) (entry .pre .0) _ (entry .pre .5) (loop .k) (by-loop-test .loop-test .taken) (loop .out)
+          (loop .inv .0) _ same _ (by-write-record .write-record .ensures .0),
+      rw (c .plus .ensures)
+          ((step (args .w) _ (args .n) (loop .k) (loop .sum) (loop .pairs) (loop .overlapping) (loop .inv .1)
+          (by-loop-test .loop-test .taken) (by-write-record .write-record .result) (by-write-record .write-record .ensures .1)) .next),
       omega (arith, by-loop-test .loop-test .taken),
-      kept .0 ∙ loop .inv .3,
-      kept .1 .0 ∙ loop .inv .4,
+      by-write-record .write-record .kept .1 .1 .1 .1 .1 .1 .1 .0 ∙ loop .inv .3,
+      by-write-record .write-record .kept .1 .1 .1 .1 .1 .1 .1 .1 .0 ∙ loop .inv .4,
     )
 
 same-length : tie.Need-same-length Inv-loop μ-loop
@@ -193,9 +214,12 @@ same-length-4 c = c .before .loop .inv .0 .size
 
 returns : tie.Need-returns Inv-loop μ-loop
 returns c =
-    let args = c .before .before .before .before .before .before .before .before .before .before .before .before .before .before .args in
-    let loop = c .before .loop in
-    written-all (args .w) (now (args .s)) (args .n) (loop .k) (now (args .out)) (loop .out) _ (loop .inv .0) (loop .inv .1) (omega (arith, c .loop-test .left)) (loop .inv .2)
+    let turn = c .before in
+    let entry = turn .before .before .before .before .before .before .before .before .before .before .before .before .before in
+    let args = entry .args in
+    let loop = turn .loop in
+    written-all (args .w) (now (args .s)) (args .n) (loop .k) (now (args .out)) (loop .out) _ (loop .inv .0) (loop .inv .1)
+    (omega (arith, c .loop-test .left)) (loop .inv .2)
 
 pub write-all-spec : {M : Type 1} → statement M
 write-all-spec =

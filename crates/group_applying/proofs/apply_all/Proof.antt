@@ -1,4 +1,5 @@
--- `group_applying::apply_all` meets its contract. Assumes nothing.
+-- `group_applying::apply_all` meets its contract. The loop keeps: the pairs before record i are corrected and counted, and correcting those left from here
+-- gives what correcting all gives from the start; buffer and room keep their lengths. The measure is the number of records left. Assumes nothing.
 use mathlib.Core.Path.{_≡_, refl, _∙_}
 use Prim.Native.Nat.{_-_, _≤_}
 use lib.ListN.{length, getD}
@@ -47,8 +48,14 @@ loop-again c =
     let turn = by-loop-test .before in
     let entry = turn .before .before .before .before .before in
     let args = entry .args in
-    let loop = turn .loop in
-    (applying-alone (args .w) (now (args .buf)) (args .stats) (args .n) (loop .i) (loop .buf) (loop .sum) (loop .pairs) (loop .overlapping) (loop .inv .0) (by-loop-test .loop-test .taken) (getD (now (args .mate)) (loop .i) 0) (entry .pre .1 .mates (loop .i) (by-loop-test .loop-test .taken)) (c .if1 .taken), omega (arith, by-loop-test .loop-test .taken), loop .inv .2, loop .inv .3)
+    let loop = turn .loop in (
+      applying-alone (args .w) (now (args .buf)) (args .stats) (args .n) (loop .i) (loop .buf) (loop .sum) (loop .pairs) (loop .overlapping)
+          (loop .inv .0) (by-loop-test .loop-test .taken) (getD (now (args .mate)) (loop .i) 0)
+          (entry .pre .1 .mates (loop .i) (by-loop-test .loop-test .taken)) (c .if1 .taken),
+      omega (arith, by-loop-test .loop-test .taken),
+      loop .inv .2,
+      loop .inv .3,
+    )
 
 sub-apply-pair : tie.Need-sub-apply-pair Inv-loop μ-loop
 sub-apply-pair c = search needs
@@ -61,7 +68,10 @@ apply-pair-requires c κs =
     let entry = turn .before .before .before .before .before in
     let args = entry .args in
     let loop = turn .loop in
-    given (args .w) (now (args .buf)) (args .stats) (args .n) (loop .i) (loop .buf) (loop .sum) (loop .pairs) (loop .overlapping) (loop .inv .0) (by-loop-test .loop-test .taken) (getD (now (args .mate)) (loop .i) 0) (entry .pre .1 .mates (loop .i) (by-loop-test .loop-test .taken)) (by-if1 .if1 .left) (now (args .begins)) (entry .pre .0) (length (loop .room)) (omega (arith, loop .inv .3, entry .pre .2))
+    given (args .w) (now (args .buf)) (args .stats) (args .n) (loop .i) (loop .buf) (loop .sum) (loop .pairs) (loop .overlapping)
+    (loop .inv .0) (by-loop-test .loop-test .taken) (getD (now (args .mate)) (loop .i) 0)
+    (entry .pre .1 .mates (loop .i) (by-loop-test .loop-test .taken)) (by-if1 .if1 .left) (now (args .begins)) (entry .pre .0)
+    (length (loop .room)) (omega (arith, loop .inv .3, entry .pre .2))
 
 add-pairs : tie.Need-add-pairs Inv-loop μ-loop
 add-pairs c =
@@ -71,7 +81,12 @@ add-pairs c =
     let entry = turn .before .before .before .before .before in
     let args = entry .args in
     let loop = turn .loop in
-    omega (arith, few-more (args .w) (now (args .buf)) (args .stats) (args .n) (loop .i) (loop .buf) (loop .sum) (loop .pairs) (loop .overlapping) (loop .inv .0) (by-loop-test .loop-test .taken) (getD (now (args .mate)) (loop .i) 0) (entry .pre .1 .mates (loop .i) (by-loop-test .loop-test .taken)) (by-if1 .if1 .left))
+    omega (
+      arith,
+      few-more (args .w) (now (args .buf)) (args .stats) (args .n) (loop .i) (loop .buf) (loop .sum) (loop .pairs) (loop .overlapping)
+          (loop .inv .0) (by-loop-test .loop-test .taken) (getD (now (args .mate)) (loop .i) 0)
+          (entry .pre .1 .mates (loop .i) (by-loop-test .loop-test .taken)) (by-if1 .if1 .left),
+    )
 
 overlap-of-requires : tie.Need-overlap-of-requires Inv-loop μ-loop
 overlap-of-requires c κs = search needs
@@ -84,7 +99,14 @@ add-overlapping c =
     let entry = turn .before .before .before .before .before in
     let args = entry .args in
     let loop = turn .loop in
-    omega (arith, few-more (args .w) (now (args .buf)) (args .stats) (args .n) (loop .i) (loop .buf) (loop .sum) (loop .pairs) (loop .overlapping) (loop .inv .0) (by-loop-test .loop-test .taken) (getD (now (args .mate)) (loop .i) 0) (entry .pre .1 .mates (loop .i) (by-loop-test .loop-test .taken)) (by-if1 .if1 .left), loop .inv .0 .fewer, c .overlap-of .ensures .1)
+    omega (
+      arith,
+      few-more (args .w) (now (args .buf)) (args .stats) (args .n) (loop .i) (loop .buf) (loop .sum) (loop .pairs) (loop .overlapping)
+          (loop .inv .0) (by-loop-test .loop-test .taken) (getD (now (args .mate)) (loop .i) 0)
+          (entry .pre .1 .mates (loop .i) (by-loop-test .loop-test .taken)) (by-if1 .if1 .left),
+      loop .inv .0 .fewer,
+      c .overlap-of .ensures .1,
+    )
 
 plus-requires : tie.Need-plus-requires Inv-loop μ-loop
 plus-requires c κs =
@@ -95,7 +117,10 @@ plus-requires c κs =
     let entry = turn .before .before .before .before .before in
     let args = entry .args in
     let loop = turn .loop in
-    adds (args .w) (now (args .buf)) (args .stats) (args .n) (loop .i) (loop .buf) (loop .sum) (loop .pairs) (loop .overlapping) (loop .inv .0) (by-loop-test .loop-test .taken) (getD (now (args .mate)) (loop .i) 0) (entry .pre .1 .mates (loop .i) (by-loop-test .loop-test .taken)) (by-if1 .if1 .left) (now (args .begins)) (entry .pre .0) (by-apply-pair .apply-pair .last .0) (by-apply-pair .apply-pair .result) (by-apply-pair .apply-pair .ensures)
+    adds (args .w) (now (args .buf)) (args .stats) (args .n) (loop .i) (loop .buf) (loop .sum) (loop .pairs) (loop .overlapping)
+    (loop .inv .0) (by-loop-test .loop-test .taken) (getD (now (args .mate)) (loop .i) 0)
+    (entry .pre .1 .mates (loop .i) (by-loop-test .loop-test .taken)) (by-if1 .if1 .left) (now (args .begins)) (entry .pre .0)
+    (by-apply-pair .apply-pair .last .0) (by-apply-pair .apply-pair .result) (by-apply-pair .apply-pair .ensures)
 
 add-i-2 : tie.Need-add-i-2 Inv-loop μ-loop
 add-i-2 c =
@@ -115,8 +140,16 @@ loop-again-2 c =
     let turn = by-loop-test .before in
     let entry = turn .before .before .before .before .before in
     let args = entry .args in
-    let loop = turn .loop in
-    (applying-next (args .w) (now (args .buf)) (args .stats) (args .n) (loop .i) (loop .buf) (loop .sum) (loop .pairs) (loop .overlapping) (loop .inv .0) (by-loop-test .loop-test .taken) (getD (now (args .mate)) (loop .i) 0) (entry .pre .1 .mates (loop .i) (by-loop-test .loop-test .taken)) (by-if1 .if1 .left) (now (args .begins)) (entry .pre .0) (by-apply-pair .apply-pair .last .0) (by-apply-pair .apply-pair .result) (by-apply-pair .apply-pair .ensures) (c .before .overlap-of .result) (c .before .overlap-of .ensures .0) (c .plus .result) (c .plus .ensures), omega (arith, by-loop-test .loop-test .taken), by-apply-pair .apply-pair .kept .0 ∙ loop .inv .2, by-apply-pair .apply-pair .kept .1 .0 ∙ loop .inv .3)
+    let loop = turn .loop in (
+      applying-next (args .w) (now (args .buf)) (args .stats) (args .n) (loop .i) (loop .buf) (loop .sum) (loop .pairs) (loop .overlapping)
+          (loop .inv .0) (by-loop-test .loop-test .taken) (getD (now (args .mate)) (loop .i) 0)
+          (entry .pre .1 .mates (loop .i) (by-loop-test .loop-test .taken)) (by-if1 .if1 .left) (now (args .begins)) (entry .pre .0)
+          (by-apply-pair .apply-pair .last .0) (by-apply-pair .apply-pair .result) (by-apply-pair .apply-pair .ensures)
+          (c .before .overlap-of .result) (c .before .overlap-of .ensures .0) (c .plus .result) (c .plus .ensures),
+      omega (arith, by-loop-test .loop-test .taken),
+      by-apply-pair .apply-pair .kept .0 ∙ loop .inv .2,
+      by-apply-pair .apply-pair .kept .1 .0 ∙ loop .inv .3,
+    )
 
 same-length : tie.Need-same-length Inv-loop μ-loop
 same-length c = c .before .loop .inv .2
@@ -126,9 +159,12 @@ same-length-2 c = c .before .loop .inv .3
 
 returns : tie.Need-returns Inv-loop μ-loop
 returns c =
-    let entry = c .before .before .before .before .before .before in
+    let turn = c .before in
+    let entry = turn .before .before .before .before .before in
     let args = entry .args in
-    applying-end (args .w) (now (args .buf)) (args .stats) (args .n) (c .before .loop .i) (c .before .loop .buf) _ (c .before .loop .inv .0) (omega (arith, c .loop-test .left))
+    let loop = turn .loop in
+    applying-end (args .w) (now (args .buf)) (args .stats) (args .n) (loop .i) (loop .buf) _ (loop .inv .0)
+    (omega (arith, c .loop-test .left))
 
 pub apply-all-spec : {M : Type 1} → statement M
 apply-all-spec =

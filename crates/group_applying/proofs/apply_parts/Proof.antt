@@ -97,13 +97,13 @@ returns c =
     let n = args .to - args .from in
     let buf = now (args .buf) in
     let room = now (args .room) in
-    let call = by-call .call in
-    let out : by-copy .copy .last .1 .0 ≡ part buf (args .from) (args .to) =
-    by-copy .copy .ensures .1 ∙ copied-over (part buf (args .from) (args .to)) (part room 0 n)
+    let out : by-copy .copy .last .1 .0 ≡ part buf (args .from) (args .to) = by-copy .copy .ensures .1 ∙ copied-over
+    (part buf (args .from) (args .to)) (part room 0 n)
     (room-long buf room (args .start) (args .end) (args .from) (args .to) (entry .pre)) in
-    put-as (args .w) buf room (args .start) (args .end) (args .from) (args .to) (entry .pre)
-    (by-copy .copy .last .1 .0) out (call .result) (by-new .new .result) (call .last .0) (call .last .1 .0) (by-copy2 .copy2 .last .1 .0)
-    (by-new .new .ensures) (call .ensures) (call .kept .1 .0) (by-copy2 .copy2 .ensures .1 ∙ copied-over _ _ (omega (arith, by-copy-arg3 .copy-arg3 .given, by-copy-arg4 .copy-arg4 .given)))
+    put-as (args .w) buf room (args .start) (args .end) (args .from) (args .to) (entry .pre) (by-copy .copy .last .1 .0) out
+    (by-call .call .result) (by-new .new .result) (by-call .call .last .0) (by-call .call .last .1 .0) (by-copy2 .copy2 .last .1 .0)
+    (by-new .new .ensures) (by-call .call .ensures) (by-call .call .kept .1 .0)
+    (by-copy2 .copy2 .ensures .1 ∙ copied-over _ _ (omega (arith, by-copy-arg3 .copy-arg3 .given, by-copy-arg4 .copy-arg4 .given)))
 
 pub apply-parts-spec : {M : Type 1} → statement M
 apply-parts-spec =

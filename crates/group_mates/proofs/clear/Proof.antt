@@ -1,4 +1,4 @@
--- `group_mates::clear` meets its contract. Assumes nothing.
+-- `group_mates::clear` meets its contract. The loop keeps: the chains of the first k records are empty. The measure is the number of records left. Assumes nothing.
 use mathlib.Core.Path.{_≡_, refl, _∙_}
 use Prim.Native.Nat.{_-_}
 use lib.ListN.{length, length-set}

@@ -1,4 +1,4 @@
--- `group_mates::enter_keys` meets its contract. Assumes nothing.
+-- `group_mates::enter_keys` meets its contract. The loop keeps: the first k entries are the keys of those records. The measure is the number of records left. Assumes nothing.
 use mathlib.Core.Path.{_≡_, refl, ap, _∙_}
 use Prim.Native.Nat.{_-_}
 use lib.ListN.{length, length-set}

@@ -1,4 +1,4 @@
--- `group_mates::enter_mates` meets its contract. Assumes nothing.
+-- `group_mates::enter_mates` meets its contract. The loop keeps: the first i entries are the mates of those records. The measure is the number of records left. Assumes nothing.
 use mathlib.Core.Path.{_≡_, refl, _∙_}
 use Prim.Native.Nat.{_-_}
 use lib.ListN.{length, length-set}

@@ -1,4 +1,5 @@
--- `group_mates::holder_of` meets its contract. Assumes nothing.
+-- `group_mates::holder_of` meets its contract. The loop keeps: c is 0 or one more than a record of the chain, and whoever has the
+-- registration among all records has it among the first c. The measure is c. Assumes nothing.
 use mathlib.Core.Path.{_≡_, ap, _∙_}
 use Prim.Native.Nat.{ℕ, _-_}
 use lib.ListN.{getD}
@@ -43,7 +44,8 @@ loop-holds : tie.Need-loop-holds Inv-loop μ-loop
 loop-holds c =
     let entry = c .before .before .before .before .before .before .before .before in
     let args = entry .args in
-    walking-start (now (args .s)) (now (args .key)) (args .n) (entry .pre .1) (args .q) (args .i) (entry .pre .3) _ (ap (λ (z : ℕ). getD (now (args .head)) z 0) (c .before .chain-of .ensures .0) ∙ entry .pre .2 .heads (args .i) (entry .pre .3))
+    walking-start (now (args .s)) (now (args .key)) (args .n) (entry .pre .1) (args .q) (args .i) (entry .pre .3) _
+    (ap (λ (z : ℕ). getD (now (args .head)) z 0) (c .before .chain-of .ensures .0) ∙ entry .pre .2 .heads (args .i) (entry .pre .3))
 
 sub-j : tie.Need-sub-j Inv-loop μ-loop
 sub-j c = search needs
@@ -55,9 +57,15 @@ fits-at-requires c κs =
 
 returns : tie.Need-returns Inv-loop μ-loop
 returns c =
-    let args = c .before .before .before .before .before .before .before .before .before .before .before .before .args in
-    let loop = c .before .before .before .loop in
-    (holder-yes (placeAt (now (args .s))) (nameAt (now (args .s))) (args .q) (nameAt (now (args .s)) (args .i)) (loop .c) (omega arith) (c .before .fits-at .result) (c .before .fits-at .ensures) (c .if1 .taken) ∙ loop .inv .left, loop .inv .low)
+    let turn = c .before .before .before in
+    let entry = turn .before .before .before .before .before .before .before .before .before in
+    let args = entry .args in
+    let loop = turn .loop in
+    let s = now (args .s) in (
+      holder-yes (placeAt s) (nameAt s) (args .q) (nameAt s (args .i)) (loop .c) (omega arith) (c .before .fits-at .result)
+          (c .before .fits-at .ensures) (c .if1 .taken) ∙ loop .inv .left,
+      loop .inv .low,
+    )
 
 mul-c-2 : tie.Need-mul-c-2 Inv-loop μ-loop
 mul-c-2 c =
@@ -71,17 +79,29 @@ shared-slice-read-c-2 c =
 
 loop-less : tie.Need-loop-less Inv-loop μ-loop
 loop-less c =
-    let entry = c .before .before .before .before .before .before .before .before .before .before .before .before .before in
+    let by-loop-test = c .before .before .before in
+    let turn = by-loop-test .before in
+    let entry = turn .before .before .before .before .before .before .before .before .before in
     let args = entry .args in
-    let loop = c .before .before .before .before .loop in
-    omega (arith, (entry .pre .2 .links (loop .c - 1) (omega (arith, loop .inv .low, c .before .before .before .loop-test .taken))), last-le (now (args .key)) (chainOf (getD (now (args .key)) (loop .c - 1) 0)) (loop .c - 1))
+    let loop = turn .loop in
+    let key = now (args .key) in
+    omega (
+      arith,
+      entry .pre .2 .links (loop .c - 1) (omega (arith, loop .inv .low, by-loop-test .loop-test .taken)),
+      last-le key (chainOf (getD key (loop .c - 1) 0)) (loop .c - 1),
+    )
 
 loop-again : tie.Need-loop-again Inv-loop μ-loop
 loop-again c =
-    let entry = c .before .before .before .before .before .before .before .before .before .before .before .before .before in
+    let by-fits-at = c .before .before in
+    let by-loop-test = by-fits-at .before in
+    let turn = by-loop-test .before in
+    let entry = turn .before .before .before .before .before .before .before .before .before in
     let args = entry .args in
-    let loop = c .before .before .before .before .loop in
-    walking-next (now (args .s)) (now (args .key)) (args .n) (entry .pre .1) (args .q) (args .i) (entry .pre .3) (loop .c) (loop .inv) (c .before .before .before .loop-test .taken) (c .before .before .fits-at .result) _ (c .before .before .fits-at .ensures) (c .before .if1 .left) (entry .pre .2 .links (loop .c - 1) (omega (arith, loop .inv .low, c .before .before .before .loop-test .taken)))
+    let loop = turn .loop in
+    walking-next (now (args .s)) (now (args .key)) (args .n) (entry .pre .1) (args .q) (args .i) (entry .pre .3) (loop .c) (loop .inv)
+    (by-loop-test .loop-test .taken) (by-fits-at .fits-at .result) _ (by-fits-at .fits-at .ensures) (c .before .if1 .left)
+    (entry .pre .2 .links (loop .c - 1) (omega (arith, loop .inv .low, by-loop-test .loop-test .taken)))
 
 returns-2 : tie.Need-returns-2 Inv-loop μ-loop
 unfolding holder

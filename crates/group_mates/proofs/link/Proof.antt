@@ -1,4 +1,5 @@
--- `group_mates::link` meets its contract. Assumes nothing.
+-- `group_mates::link` meets its contract. The loop keeps: the first k records are linked, each to the one before it in its chain, and the heads are the last of
+-- them. The measure is the number of records left. Assumes nothing.
 use mathlib.Core.Path.{_≡_, refl, _∙_}
 use Prim.Native.Nat.{_-_, _≤_}
 use lib.ListN.{length, length-set}
@@ -20,9 +21,15 @@ clear-requires c κs = search needs
 
 loop-holds : tie.Need-loop-holds Inv-loop μ-loop
 loop-holds c =
-    let entry = c .before .before .before .before .before .before .before in
-    let args = entry .args in
-    (search needs, linked-start (now (args .key)) _ (now (args .next)) (args .n) (omega (arith, c .before .before .clear .kept .1 .1 .0)) (entry .pre .3) (c .before .before .clear .ensures), refl, refl)
+    let by-clear = c .before .before in
+    let entry = by-clear .before .before .before .before .before in
+    let args = entry .args in (
+      search needs,
+      linked-start (now (args .key)) _ (now (args .next)) (args .n) (omega (arith, by-clear .clear .kept .1 .1 .0)) (entry .pre .3)
+          (by-clear .clear .ensures),
+      refl,
+      refl,
+    )
 
 mul-chain-of : tie.Need-mul-chain-of Inv-loop μ-loop
 mul-chain-of c = omega arith
@@ -59,9 +66,17 @@ loop-less c = search needs
 
 loop-again : tie.Need-loop-again Inv-loop μ-loop
 loop-again c =
-    let args = c .before .before .before .before .before .before .before .before .before .before .before .before .args in
-    let loop = c .before .before .before .before .loop in
-    (omega arith, linked-next (now (args .key)) (loop .head) (loop .next) (args .n) (loop .k) (c .before .chain-of .result) (loop .inv .1) (omega arith) (omega arith) (c .before .chain-of .ensures .0) (c .before .chain-of .ensures .1), length-set (loop .head) _ _ ∙ loop .inv .2, length-set (loop .next) _ _ ∙ loop .inv .3)
+    let by-chain-of = c .before in
+    let turn = by-chain-of .before .before .before in
+    let entry = turn .before .before .before .before .before .before .before .before in
+    let args = entry .args in
+    let loop = turn .loop in (
+      omega arith,
+      linked-next (now (args .key)) (loop .head) (loop .next) (args .n) (loop .k) (by-chain-of .chain-of .result) (loop .inv .1)
+          (omega arith) (omega arith) (by-chain-of .chain-of .ensures .0) (by-chain-of .chain-of .ensures .1),
+      length-set (loop .head) _ _ ∙ loop .inv .2,
+      length-set (loop .next) _ _ ∙ loop .inv .3,
+    )
 
 same-length : tie.Need-same-length Inv-loop μ-loop
 same-length c = search needs

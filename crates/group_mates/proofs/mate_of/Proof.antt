@@ -19,7 +19,9 @@ returns : tie.Need-returns
 returns c =
     let entry = c .before .before .before .before .before .before .before in
     let args = entry .args in
-    mate-none (placeAt (now (args .s))) (nameAt (now (args .s))) (args .n) (args .i) (λ z. c .if1 .taken ((key-place (recordOf (now (args .s)) (args .i)) _ (entry .pre .1 .keys (args .i) (entry .pre .3))) ∙ z))
+    let s = now (args .s) in
+    mate-none (placeAt s) (nameAt s) (args .n) (args .i)
+    (λ z. c .if1 .taken ((key-place (recordOf s (args .i)) _ (entry .pre .1 .keys (args .i) (entry .pre .3))) ∙ z))
 
 holder-of-requires : tie.Need-holder-of-requires
 holder-of-requires c κs = search needs
@@ -29,18 +31,27 @@ add-if2 c = search needs
 
 returns-2 : tie.Need-returns-2
 returns-2 c =
-    let entry = c .before .before .before .before .before .before .before .before .before in
+    let by-if1 = c .before .before in
+    let entry = by-if1 .before .before .before .before .before .before .before in
     let args = entry .args in
-    mate-superseded (placeAt (now (args .s))) (nameAt (now (args .s))) (args .n) (args .i) (c .before .holder-of .result) (sym (key-place (recordOf (now (args .s)) (args .i)) _ (entry .pre .1 .keys (args .i) (entry .pre .3))) ∙ c .before .before .if1 .left) (c .before .holder-of .ensures .0) (c .if2 .taken)
+    let s = now (args .s) in
+    mate-superseded (placeAt s) (nameAt s) (args .n) (args .i) (c .before .holder-of .result)
+    (sym (key-place (recordOf s (args .i)) _ (entry .pre .1 .keys (args .i) (entry .pre .3))) ∙ by-if1 .if1 .left)
+    (c .before .holder-of .ensures .0) (c .if2 .taken)
 
 holder-of-requires-2 : tie.Need-holder-of-requires-2
 holder-of-requires-2 c κs = search needs
 
 returns-3 : tie.Need-returns-3
 returns-3 c =
-    let entry = c .before .before .before .before .before .before .before .before .before .before in
+    let by-holder-of = c .before .before in
+    let by-if1 = by-holder-of .before in
+    let entry = by-if1 .before .before .before .before .before .before .before in
     let args = entry .args in
-    mate-held (placeAt (now (args .s))) (nameAt (now (args .s))) (args .n) (args .i) (c .before .before .holder-of .result) (c .holder-of2 .result) (sym (key-place (recordOf (now (args .s)) (args .i)) _ (entry .pre .1 .keys (args .i) (entry .pre .3))) ∙ c .before .before .before .if1 .left) (c .before .before .holder-of .ensures .0) (c .before .if2 .left) (c .holder-of2 .ensures .0)
+    let s = now (args .s) in
+    mate-held (placeAt s) (nameAt s) (args .n) (args .i) (by-holder-of .holder-of .result) (c .holder-of2 .result)
+    (sym (key-place (recordOf s (args .i)) _ (entry .pre .1 .keys (args .i) (entry .pre .3))) ∙ by-if1 .if1 .left)
+    (by-holder-of .holder-of .ensures .0) (c .before .if2 .left) (c .holder-of2 .ensures .0)
 
 pub mate-of-spec : {M : Type 1} → statement M
 mate-of-spec =

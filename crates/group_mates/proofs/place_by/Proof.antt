@@ -18,25 +18,67 @@ supplementary-requires c κs = search needs
 
 returns-2 : tie.Need-returns-2
 unfolding placeBy
-returns-2 c = (simp (sym (c .before .before .before .secondary .ensures) ∙ c .before .before .if1 .left, sym (c .before .supplementary .ensures) ∙ c .if2 .taken), omega arith)
+returns-2 c =
+    let by-if1 = c .before .before in
+    let by-secondary = by-if1 .before in
+    (simp (sym (by-secondary .secondary .ensures) ∙ by-if1 .if1 .left, sym (c .before .supplementary .ensures) ∙ c .if2 .taken), omega arith)
 
 first-segment-requires : tie.Need-first-segment-requires
 first-segment-requires c κs = search needs
 
 returns-3 : tie.Need-returns-3
 unfolding placeBy
-returns-3 c = (simp (sym (c .before .before .before .before .before .secondary .ensures) ∙ c .before .before .before .before .if1 .left, sym (c .before .before .before .supplementary .ensures) ∙ c .before .before .if2 .left, sym (c .before .first-segment .ensures) ∙ c .if3 .taken), omega arith)
+returns-3 c =
+    let by-if2 = c .before .before in
+    let by-supplementary = by-if2 .before in
+    let by-if1 = by-supplementary .before in
+    let by-secondary = by-if1 .before in (
+      simp (
+        sym (by-secondary .secondary .ensures) ∙ by-if1 .if1 .left,
+        sym (by-supplementary .supplementary .ensures) ∙ by-if2 .if2 .left,
+        sym (c .before .first-segment .ensures) ∙ c .if3 .taken,
+      ),
+      omega arith,
+    )
 
 last-segment-requires : tie.Need-last-segment-requires
 last-segment-requires c κs = search needs
 
 returns-4 : tie.Need-returns-4
 unfolding placeBy
-returns-4 c = (simp (sym (c .before .before .before .before .before .before .before .secondary .ensures) ∙ c .before .before .before .before .before .before .if1 .left, sym (c .before .before .before .before .before .supplementary .ensures) ∙ c .before .before .before .before .if2 .left, sym (c .before .before .before .first-segment .ensures) ∙ c .before .before .if3 .left, sym (c .before .last-segment .ensures) ∙ c .if4 .taken), omega arith)
+returns-4 c =
+    let by-if3 = c .before .before in
+    let by-first-segment = by-if3 .before in
+    let by-if2 = by-first-segment .before in
+    let by-supplementary = by-if2 .before in
+    let by-if1 = by-supplementary .before in
+    let by-secondary = by-if1 .before in (
+      simp (
+        sym (by-secondary .secondary .ensures) ∙ by-if1 .if1 .left,
+        sym (by-supplementary .supplementary .ensures) ∙ by-if2 .if2 .left,
+        sym (by-first-segment .first-segment .ensures) ∙ by-if3 .if3 .left,
+        sym (c .before .last-segment .ensures) ∙ c .if4 .taken,
+      ),
+      omega arith,
+    )
 
 returns-5 : tie.Need-returns-5
 unfolding placeBy
-returns-5 c = (simp (sym (c .before .before .before .before .before .before .before .secondary .ensures) ∙ c .before .before .before .before .before .before .if1 .left, sym (c .before .before .before .before .before .supplementary .ensures) ∙ c .before .before .before .before .if2 .left, sym (c .before .before .before .first-segment .ensures) ∙ c .before .before .if3 .left, sym (c .before .last-segment .ensures) ∙ c .if4 .left), omega arith)
+returns-5 c =
+    let by-if3 = c .before .before in
+    let by-first-segment = by-if3 .before in
+    let by-if2 = by-first-segment .before in
+    let by-supplementary = by-if2 .before in
+    let by-if1 = by-supplementary .before in
+    let by-secondary = by-if1 .before in (
+      simp (
+        sym (by-secondary .secondary .ensures) ∙ by-if1 .if1 .left,
+        sym (by-supplementary .supplementary .ensures) ∙ by-if2 .if2 .left,
+        sym (by-first-segment .first-segment .ensures) ∙ by-if3 .if3 .left,
+        sym (c .before .last-segment .ensures) ∙ c .if4 .left,
+      ),
+      omega arith,
+    )
 
 pub place-by-spec : {M : Type 1} → statement M
 place-by-spec =

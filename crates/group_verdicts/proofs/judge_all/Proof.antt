@@ -1,4 +1,4 @@
--- `group_verdicts::judge_all` meets its contract. Assumes nothing.
+-- `group_verdicts::judge_all` meets its contract. The loop keeps: no pair before record i was refused, so what is left of the list decides the verdict. The measure is the number of records left. Assumes nothing.
 use mathlib.Core.Path.{refl}
 use Prim.Native.Nat.{_-_, _≤_}
 use lib.ListN.{getD}
@@ -42,20 +42,32 @@ loop-less c = search needs
 
 loop-again : tie.Need-loop-again Inv-loop μ-loop
 loop-again c =
-    let entry = c .before .before .before .before .before .before .before in
+    let by-loop-test = c .before .before in
+    let turn = by-loop-test .before in
+    let entry = turn .before .before .before .before in
     let args = entry .args in
-    let loop = c .before .before .before .loop in
-    (omega arith, left-alone (indexedAt (now (args .s))) (matesOf (now (args .s)) (args .n)) (args .n) (loop .i) (loop .inv .1) (c .before .before .loop-test .taken) (getD (now (args .mate)) (loop .i) 0) (entry .pre .1 .mates (loop .i) (c .before .before .loop-test .taken)) (c .if1 .taken))
+    let loop = turn .loop in
+    let s = now (args .s) in (
+      omega arith,
+      left-alone (indexedAt s) (matesOf s (args .n)) (args .n) (loop .i) (loop .inv .1) (by-loop-test .loop-test .taken)
+          (getD (now (args .mate)) (loop .i) 0) (entry .pre .1 .mates (loop .i) (by-loop-test .loop-test .taken)) (c .if1 .taken),
+    )
 
 sub-judge-at : tie.Need-sub-judge-at Inv-loop μ-loop
 sub-judge-at c = search needs
 
 judge-at-requires : tie.Need-judge-at-requires Inv-loop μ-loop
 judge-at-requires c κs =
-    let entry = c .before .before .before .before .before .before .before in
+    let by-loop-test = c .before .before in
+    let turn = by-loop-test .before in
+    let entry = turn .before .before .before .before in
     let args = entry .args in
-    let loop = c .before .before .before .loop in
-    (entry .pre .0, c .before .before .loop-test .taken, mate-in (now (args .s)) (args .n) (loop .i) (getD (now (args .mate)) (loop .i) 0) (entry .pre .1 .mates (loop .i) (c .before .before .loop-test .taken)) (c .if1 .left))
+    let loop = turn .loop in (
+      entry .pre .0,
+      by-loop-test .loop-test .taken,
+      mate-in (now (args .s)) (args .n) (loop .i) (getD (now (args .mate)) (loop .i) 0)
+          (entry .pre .1 .mates (loop .i) (by-loop-test .loop-test .taken)) (c .if1 .left),
+    )
 
 enum-told : tie.Need-enum-told Inv-loop μ-loop
 enum-told c = search needs
@@ -70,20 +82,36 @@ loop-less-2 c = search needs
 
 loop-again-2 : tie.Need-loop-again-2 Inv-loop μ-loop
 loop-again-2 c =
-    let entry = c .before .before .before .before .before .before .before .before .before .before in
+    let by-judge-at = c .before .before in
+    let by-if1 = by-judge-at .before in
+    let by-loop-test = by-if1 .before .before in
+    let turn = by-loop-test .before in
+    let entry = turn .before .before .before .before in
     let args = entry .args in
-    let loop = c .before .before .before .before .before .before .loop in
-    (omega arith, left-passed (indexedAt (now (args .s))) (matesOf (now (args .s)) (args .n)) (args .n) (loop .i) (loop .inv .1) (c .before .before .before .before .before .loop-test .taken) (getD (now (args .mate)) (loop .i) 0) (entry .pre .1 .mates (loop .i) (c .before .before .before .before .before .loop-test .taken)) (c .before .before .before .if1 .left) (c .before .before .judge-at .result) _ (c .before .before .judge-at .ensures) (c .enum-told .given .1) refl)
+    let loop = turn .loop in
+    let s = now (args .s) in (
+      omega arith,
+      left-passed (indexedAt s) (matesOf s (args .n)) (args .n) (loop .i) (loop .inv .1) (by-loop-test .loop-test .taken)
+          (getD (now (args .mate)) (loop .i) 0) (entry .pre .1 .mates (loop .i) (by-loop-test .loop-test .taken)) (by-if1 .if1 .left)
+          (by-judge-at .judge-at .result) _ (by-judge-at .judge-at .ensures) (c .enum-told .given .1) refl,
+    )
 
 enum-known-v : tie.Need-enum-known-v Inv-loop μ-loop
 enum-known-v c = search needs
 
 returns : tie.Need-returns Inv-loop μ-loop
 returns c =
-    let entry = c .before .before .before .before .before .before .before .before .before .before .before in
+    let by-judge-at = c .before .before .before in
+    let by-if1 = by-judge-at .before in
+    let by-loop-test = by-if1 .before .before in
+    let turn = by-loop-test .before in
+    let entry = turn .before .before .before .before in
     let args = entry .args in
-    let loop = c .before .before .before .before .before .before .before .loop in
-    left-refused (indexedAt (now (args .s))) (matesOf (now (args .s)) (args .n)) (args .n) (loop .i) (loop .inv .1) (c .before .before .before .before .before .before .loop-test .taken) (getD (now (args .mate)) (loop .i) 0) (entry .pre .1 .mates (loop .i) (c .before .before .before .before .before .before .loop-test .taken)) (c .before .before .before .before .if1 .left) (c .before .before .before .judge-at .result) _ (c .before .before .before .judge-at .ensures) (c .before .v .given .1) _ refl
+    let loop = turn .loop in
+    let s = now (args .s) in
+    left-refused (indexedAt s) (matesOf s (args .n)) (args .n) (loop .i) (loop .inv .1) (by-loop-test .loop-test .taken)
+    (getD (now (args .mate)) (loop .i) 0) (entry .pre .1 .mates (loop .i) (by-loop-test .loop-test .taken)) (by-if1 .if1 .left)
+    (by-judge-at .judge-at .result) _ (by-judge-at .judge-at .ensures) (c .before .v .given .1) _ refl
 
 returns-2 : tie.Need-returns-2 Inv-loop μ-loop
 returns-2 c =

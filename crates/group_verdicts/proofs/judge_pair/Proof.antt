@@ -24,7 +24,8 @@ returns c =
     let by-check-record = c .before .before .before in
     let entry = by-check-record .before .before .before in
     let args = entry .args in
-    c .unchecked .ensures ∙ first-bad (now (args .first)) (now (args .second)) (args .i) (args .j) (by-check-record .check-record .result) _ (by-check-record .check-record .ensures) (c .before .enum-told .given .1)
+    c .unchecked .ensures ∙ first-bad (now (args .first)) (now (args .second)) (args .i) (args .j) (by-check-record .check-record .result) _
+    (by-check-record .check-record .ensures) (c .before .enum-told .given .1)
 
 check-record-requires-2 : tie.Need-check-record-requires-2
 check-record-requires-2 c κs = search needs
@@ -45,7 +46,9 @@ returns-2 c =
     let by-check-record = by-checked1 .before .before in
     let entry = by-check-record .before .before .before in
     let args = entry .args in
-    c .unchecked2 .ensures ∙ second-bad (now (args .first)) (now (args .second)) (args .i) (args .j) (by-checked1 .checked1 .given .0 .0) (sym (by-check-record .check-record .ensures) ∙ by-checked1 .checked1 .given .1) (by-check-record2 .check-record2 .result) _ (by-check-record2 .check-record2 .ensures) (c .before .enum-told2 .given .1)
+    c .unchecked2 .ensures ∙ second-bad (now (args .first)) (now (args .second)) (args .i) (args .j) (by-checked1 .checked1 .given .0 .0)
+    (sym (by-check-record .check-record .ensures) ∙ by-checked1 .checked1 .given .1) (by-check-record2 .check-record2 .result) _
+    (by-check-record2 .check-record2 .ensures) (c .before .enum-told2 .given .1)
 
 place-requires : tie.Need-place-requires
 place-requires c κs =
@@ -53,8 +56,12 @@ place-requires c κs =
     let by-checked1 = by-check-record2 .before .before in
     let by-check-record = by-checked1 .before .before in
     let entry = by-check-record .before .before .before in
-    let args = entry .args in
-    ((good-sound _ (args .i) (by-checked1 .checked1 .given .0 .0) (sym (by-check-record .check-record .ensures) ∙ by-checked1 .checked1 .given .1)) .fixed, (good-sound _ (args .j) (c .before .checked2 .given .0 .0) (sym (by-check-record2 .check-record2 .ensures) ∙ c .before .checked2 .given .1)) .fixed)
+    let args = entry .args in (
+      (good-sound _ (args .i) (by-checked1 .checked1 .given .0 .0)
+          (sym (by-check-record .check-record .ensures) ∙ by-checked1 .checked1 .given .1)) .fixed,
+      (good-sound _ (args .j) (c .before .checked2 .given .0 .0)
+          (sym (by-check-record2 .check-record2 .ensures) ∙ c .before .checked2 .given .1)) .fixed,
+    )
 
 enum-known-at : tie.Need-enum-known-at
 enum-known-at c = search needs
@@ -71,7 +78,10 @@ returns-3 c =
     let by-check-record = by-checked1 .before .before in
     let entry = by-check-record .before .before .before in
     let args = entry .args in
-    both-placed (now (args .first)) (now (args .second)) (args .i) (args .j) (by-checked1 .checked1 .given .0 .0) (sym (by-check-record .check-record .ensures) ∙ by-checked1 .checked1 .given .1) (by-checked2 .checked2 .given .0 .0) (by-place .place .result) _ (sym (by-check-record2 .check-record2 .ensures) ∙ by-checked2 .checked2 .given .1) (by-place .place .ensures) (c .enum-told3 .given .1)
+    both-placed (now (args .first)) (now (args .second)) (args .i) (args .j) (by-checked1 .checked1 .given .0 .0)
+    (sym (by-check-record .check-record .ensures) ∙ by-checked1 .checked1 .given .1) (by-checked2 .checked2 .given .0 .0)
+    (by-place .place .result) _ (sym (by-check-record2 .check-record2 .ensures) ∙ by-checked2 .checked2 .given .1)
+    (by-place .place .ensures) (c .enum-told3 .given .1)
 
 spans-of-requires : tie.Need-spans-of-requires
 spans-of-requires c κs =
@@ -80,8 +90,12 @@ spans-of-requires c κs =
     let by-checked1 = by-check-record2 .before .before in
     let by-check-record = by-checked1 .before .before in
     let entry = by-check-record .before .before .before in
-    let args = entry .args in
-    (good-sound _ (args .i) (by-checked1 .checked1 .given .0 .0) (sym (by-check-record .check-record .ensures) ∙ by-checked1 .checked1 .given .1), good-sound _ (args .j) (by-checked2 .checked2 .given .0 .0) (sym (by-check-record2 .check-record2 .ensures) ∙ by-checked2 .checked2 .given .1))
+    let args = entry .args in (
+      good-sound _ (args .i) (by-checked1 .checked1 .given .0 .0)
+          (sym (by-check-record .check-record .ensures) ∙ by-checked1 .checked1 .given .1),
+      good-sound _ (args .j) (by-checked2 .checked2 .given .0 .0)
+          (sym (by-check-record2 .check-record2 .ensures) ∙ by-checked2 .checked2 .given .1),
+    )
 
 returns-4 : tie.Need-returns-4
 returns-4 c =
@@ -93,7 +107,10 @@ returns-4 c =
     let by-check-record = by-checked1 .before .before in
     let entry = by-check-record .before .before .before in
     let args = entry .args in
-    c .spans-of .ensures ∙ both-placed (now (args .first)) (now (args .second)) (args .i) (args .j) (by-checked1 .checked1 .given .0 .0) (sym (by-check-record .check-record .ensures) ∙ by-checked1 .checked1 .given .1) (by-checked2 .checked2 .given .0 .0) (by-place .place .result) _ (sym (by-check-record2 .check-record2 .ensures) ∙ by-checked2 .checked2 .given .1) (by-place .place .ensures) (by-at .at .given .1)
+    c .spans-of .ensures ∙ both-placed (now (args .first)) (now (args .second)) (args .i) (args .j) (by-checked1 .checked1 .given .0 .0)
+    (sym (by-check-record .check-record .ensures) ∙ by-checked1 .checked1 .given .1) (by-checked2 .checked2 .given .0 .0)
+    (by-place .place .result) _ (sym (by-check-record2 .check-record2 .ensures) ∙ by-checked2 .checked2 .given .1)
+    (by-place .place .ensures) (by-at .at .given .1)
 
 pub judge-pair-spec : {M : Type 1} → statement M
 judge-pair-spec =

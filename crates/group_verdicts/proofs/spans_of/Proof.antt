@@ -24,7 +24,10 @@ returns c =
     let by-span-of = c .before .before .before in
     let entry = by-span-of .before .before .before in
     let args = entry .args in
-    c .spanned .ensures ∙ first-refused (by-span-of .span-of .result) (spanIn (args .b .layout) (now (args .second)) (args .b .pos) (args .b .index)) (spanIn (args .a .layout) (now (args .first)) (args .a .pos) (args .a .index)) _ (by-span-of .span-of .ensures) (c .before .enum-told2 .given .1)
+    c .spanned .ensures ∙ first-refused (by-span-of .span-of .result)
+    (spanIn (args .b .layout) (now (args .second)) (args .b .pos) (args .b .index))
+    (spanIn (args .a .layout) (now (args .first)) (args .a .pos) (args .a .index)) _ (by-span-of .span-of .ensures)
+    (c .before .enum-told2 .given .1)
 
 span-of-requires-2 : tie.Need-span-of-requires-2
 span-of-requires-2 c κs = search needs
@@ -38,7 +41,10 @@ returns-2 c =
     let by-span-of = by-enum-told .before .before in
     let entry = by-span-of .before .before .before in
     let args = entry .args in
-    c .spanned2 .ensures ∙ second-decides (by-span-of .span-of .result) (c .before .span-of2 .result) (spanIn (args .a .layout) (now (args .first)) (args .a .pos) (args .a .index)) (spanIn (args .b .layout) (now (args .second)) (args .b .pos) (args .b .index)) _ (by-span-of .span-of .ensures) (by-enum-told .enum-told .given .1) (c .before .span-of2 .ensures)
+    c .spanned2 .ensures ∙ second-decides (by-span-of .span-of .result) (c .before .span-of2 .result)
+    (spanIn (args .a .layout) (now (args .first)) (args .a .pos) (args .a .index))
+    (spanIn (args .b .layout) (now (args .second)) (args .b .pos) (args .b .index)) _ (by-span-of .span-of .ensures)
+    (by-enum-told .enum-told .given .1) (c .before .span-of2 .ensures)
 
 pub spans-of-spec : {M : Type 1} → statement M
 spans-of-spec =

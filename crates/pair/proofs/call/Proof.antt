@@ -39,13 +39,16 @@ same-length c = search needs
 
 returns-2 : tie.Need-returns-2
 returns-2 c =
-    let by-enum-told = c .before in
-    let by-check-record = by-enum-told .before .before in
+    let by-check-record = c .before .before .before in
     let by-if1 = by-check-record .before .before in
     let by-full = by-if1 .before in
     let entry = by-full .before .before .before in
     let args = entry .args in
-    ap (λ (x : Answer). outcome x (state (now (args .first)) (now (args .second)) (args .stats))) (c .refused .ensures) ∙ call-first (args .w) (state (now (args .first)) (now (args .second)) (args .stats)) (sym (by-full .full .ensures) ∙ by-if1 .if1 .left) (by-check-record .check-record .result) _ (by-check-record .check-record .ensures) (by-enum-told .enum-told .given .1)
+    let first = now (args .first) in
+    let second = now (args .second) in
+    ap (λ (x : Answer). outcome x (state first second (args .stats))) (c .refused .ensures) ∙ call-first (args .w)
+    (state first second (args .stats)) (sym (by-full .full .ensures) ∙ by-if1 .if1 .left) (by-check-record .check-record .result) _
+    (by-check-record .check-record .ensures) (c .before .enum-told .given .1)
 
 check-record-requires-2 : tie.Need-check-record-requires-2
 check-record-requires-2 c κs = search needs
@@ -67,23 +70,30 @@ same-length-3 c = search needs
 
 returns-3 : tie.Need-returns-3
 returns-3 c =
-    let by-enum-told2 = c .before in
-    let by-check-record2 = by-enum-told2 .before .before in
+    let by-check-record2 = c .before .before .before in
     let by-checked1 = by-check-record2 .before .before .before in
     let by-check-record = by-checked1 .before .before in
     let by-if1 = by-check-record .before .before in
     let by-full = by-if1 .before in
     let entry = by-full .before .before .before in
     let args = entry .args in
-    ap (λ (x : Answer). outcome x (state (now (args .first)) (now (args .second)) (args .stats))) (c .refused2 .ensures) ∙ call-second (args .w) (state (now (args .first)) (now (args .second)) (args .stats)) (sym (by-full .full .ensures) ∙ by-if1 .if1 .left) (by-checked1 .checked1 .given .0 .0) (sym (by-check-record .check-record .ensures) ∙ by-checked1 .checked1 .given .1) (by-check-record2 .check-record2 .result) _ (by-check-record2 .check-record2 .ensures) (by-enum-told2 .enum-told2 .given .1)
+    let first = now (args .first) in
+    let second = now (args .second) in
+    ap (λ (x : Answer). outcome x (state first second (args .stats))) (c .refused2 .ensures) ∙ call-second (args .w)
+    (state first second (args .stats)) (sym (by-full .full .ensures) ∙ by-if1 .if1 .left) (by-checked1 .checked1 .given .0 .0)
+    (sym (by-check-record .check-record .ensures) ∙ by-checked1 .checked1 .given .1) (by-check-record2 .check-record2 .result) _
+    (by-check-record2 .check-record2 .ensures) (c .before .enum-told2 .given .1)
 
 judge-requires : tie.Need-judge-requires
 judge-requires c κs =
     let by-checked2 = c .before .before .before in
     let by-check-record2 = by-checked2 .before .before in
     let by-checked1 = by-check-record2 .before .before .before in
-    let by-check-record = by-checked1 .before .before in
-    ((good-sound _ 1 (by-checked1 .checked1 .given .0 .0) (sym (by-check-record .check-record .ensures) ∙ by-checked1 .checked1 .given .1)), (good-sound _ 2 (by-checked2 .checked2 .given .0 .0) (sym (by-check-record2 .check-record2 .ensures) ∙ by-checked2 .checked2 .given .1)))
+    let by-check-record = by-checked1 .before .before in (
+      good-sound _ 1 (by-checked1 .checked1 .given .0 .0) (sym (by-check-record .check-record .ensures) ∙ by-checked1 .checked1 .given .1),
+      good-sound _ 2 (by-checked2 .checked2 .given .0 .0)
+          (sym (by-check-record2 .check-record2 .ensures) ∙ by-checked2 .checked2 .given .1),
+    )
 
 enum-known-judged : tie.Need-enum-known-judged
 enum-known-judged c = search needs
@@ -105,8 +115,21 @@ call-both-requires c κs =
     let by-if1 = by-check-record .before .before in
     let by-full = by-if1 .before in
     let entry = by-full .before .before .before in
-    let args = entry .args in
-    (record { first = (good-sound _ 1 (by-checked1 .checked1 .given .0 .0) (sym (by-check-record .check-record .ensures) ∙ by-checked1 .checked1 .given .1)); second = (good-sound _ 2 (by-checked2 .checked2 .given .0 .0) (sym (by-check-record2 .check-record2 .ensures) ∙ by-checked2 .checked2 .given .1)); place₁ = 1; place₂ = 2; both = sym (by-judge .judge .ensures) ∙ by-judged2 .judged2 .given .1 }, room-less (args .stats) 131072 _ (omega arith) (full-room (args .stats) (sym (by-full .full .ensures) ∙ by-if1 .if1 .left)))
+    let args = entry .args in (
+      record {
+        first
+            = (good-sound _ 1 (by-checked1 .checked1 .given .0 .0)
+            (sym (by-check-record .check-record .ensures) ∙ by-checked1 .checked1 .given .1));
+        second
+            = (good-sound _ 2 (by-checked2 .checked2 .given .0 .0)
+            (sym (by-check-record2 .check-record2 .ensures) ∙ by-checked2 .checked2 .given .1));
+        place₁ = 1;
+        place₂ = 2;
+        both
+            = sym (by-judge .judge .ensures) ∙ by-judged2 .judged2 .given .1;
+      },
+      room-less (args .stats) 131072 _ (omega arith) (full-room (args .stats) (sym (by-full .full .ensures) ∙ by-if1 .if1 .left)),
+    )
 
 same-length-4 : tie.Need-same-length-4
 same-length-4 c = search needs
@@ -116,8 +139,7 @@ same-length-5 c = search needs
 
 returns-4 : tie.Need-returns-4
 returns-4 c =
-    let by-judged = c .before in
-    let by-judge = by-judged .before .before in
+    let by-judge = c .before .before .before in
     let by-checked2 = by-judge .before .before .before .before in
     let by-check-record2 = by-checked2 .before .before in
     let by-checked1 = by-check-record2 .before .before .before in
@@ -126,7 +148,11 @@ returns-4 c =
     let by-full = by-if1 .before in
     let entry = by-full .before .before .before in
     let args = entry .args in
-    call-judged (args .w) (state (now (args .first)) (now (args .second)) (args .stats)) (sym (by-full .full .ensures) ∙ by-if1 .if1 .left) (by-checked1 .checked1 .given .0 .0) (sym (by-check-record .check-record .ensures) ∙ by-checked1 .checked1 .given .1) (by-checked2 .checked2 .given .0 .0) (by-judge .judge .result) _ (sym (by-check-record2 .check-record2 .ensures) ∙ by-checked2 .checked2 .given .1) (by-judge .judge .ensures) (by-judged .judged .given .1)
+    call-judged (args .w) (state (now (args .first)) (now (args .second)) (args .stats)) (sym (by-full .full .ensures) ∙ by-if1 .if1 .left)
+    (by-checked1 .checked1 .given .0 .0) (sym (by-check-record .check-record .ensures) ∙ by-checked1 .checked1 .given .1)
+    (by-checked2 .checked2 .given .0 .0) (by-judge .judge .result) _
+    (sym (by-check-record2 .check-record2 .ensures) ∙ by-checked2 .checked2 .given .1) (by-judge .judge .ensures)
+    (c .before .judged .given .1)
 
 same-length-6 : tie.Need-same-length-6
 same-length-6 c = search needs
@@ -145,7 +171,11 @@ returns-5 c =
     let by-full = by-if1 .before in
     let entry = by-full .before .before .before in
     let args = entry .args in
-    call-judged (args .w) (state (now (args .first)) (now (args .second)) (args .stats)) (sym (by-full .full .ensures) ∙ by-if1 .if1 .left) (by-checked1 .checked1 .given .0 .0) (sym (by-check-record .check-record .ensures) ∙ by-checked1 .checked1 .given .1) (by-checked2 .checked2 .given .0 .0) (by-judge .judge .result) _ (sym (by-check-record2 .check-record2 .ensures) ∙ by-checked2 .checked2 .given .1) (by-judge .judge .ensures) (c .enum-told3 .given .1)
+    call-judged (args .w) (state (now (args .first)) (now (args .second)) (args .stats)) (sym (by-full .full .ensures) ∙ by-if1 .if1 .left)
+    (by-checked1 .checked1 .given .0 .0) (sym (by-check-record .check-record .ensures) ∙ by-checked1 .checked1 .given .1)
+    (by-checked2 .checked2 .given .0 .0) (by-judge .judge .result) _
+    (sym (by-check-record2 .check-record2 .ensures) ∙ by-checked2 .checked2 .given .1) (by-judge .judge .ensures)
+    (c .enum-told3 .given .1)
 
 same-length-8 : tie.Need-same-length-8
 same-length-8 c = search needs
@@ -166,7 +196,11 @@ returns-6 c =
     let by-full = by-if1 .before in
     let entry = by-full .before .before .before in
     let args = entry .args in
-    by-call-both .call-both .ensures ∙ call-judged (args .w) (state (now (args .first)) (now (args .second)) (args .stats)) (sym (by-full .full .ensures) ∙ by-if1 .if1 .left) (by-checked1 .checked1 .given .0 .0) (sym (by-check-record .check-record .ensures) ∙ by-checked1 .checked1 .given .1) (by-checked2 .checked2 .given .0 .0) (by-judge .judge .result) _ (sym (by-check-record2 .check-record2 .ensures) ∙ by-checked2 .checked2 .given .1) (by-judge .judge .ensures) (by-judged2 .judged2 .given .1)
+    by-call-both .call-both .ensures ∙ call-judged (args .w) (state (now (args .first)) (now (args .second)) (args .stats))
+    (sym (by-full .full .ensures) ∙ by-if1 .if1 .left) (by-checked1 .checked1 .given .0 .0)
+    (sym (by-check-record .check-record .ensures) ∙ by-checked1 .checked1 .given .1) (by-checked2 .checked2 .given .0 .0)
+    (by-judge .judge .result) _ (sym (by-check-record2 .check-record2 .ensures) ∙ by-checked2 .checked2 .given .1)
+    (by-judge .judge .ensures) (by-judged2 .judged2 .given .1)
 
 pub call-spec : {M : Type 1} → statement M
 call-spec =
