@@ -1,6 +1,6 @@
 pub mod Arith
 pub mod NumberLaws
-pub mod PlacedLaws
+pub mod PositionLaws
 pub mod CheckLaws
 pub mod AmongLaws
 pub mod NameLaws

@@ -1,6 +1,6 @@
 pub mod Number
 pub mod Flag
-pub mod Placed
+pub mod Position
 pub mod Layout
 pub mod Check
 pub mod Sound

@@ -5,7 +5,7 @@ ghost use Prim.Native.Nat.{_+_, _<_, _≤_};
 ghost use lib.ListN.{length};
 ghost use Rattle.fields.specs.Number.{unsigned, put, signed32};
 ghost use Rattle.fields.specs.Flag.{hasBit, unmapped, firstSegment, lastSegment, secondary, supplementary};
-ghost use Rattle.fields.specs.Placed.{placedOf, sameId};
+ghost use Rattle.fields.specs.Position.{positionOf, sameId};
 ghost use Rattle.fields.specs.Layout.{header, nameIn};
 ghost use Rattle.fields.specs.Check.{checkOf};
 
@@ -206,19 +206,19 @@ pub fn l_seq(s: &[u8]) -> u32
 }
 
 // A position on the reference, counted from 0, or none.
-pub enum Placed {
+pub enum Position {
     At(u32),
     Unplaced,
 }
 
 // Where a record with this position is placed: nowhere if it is negative.
-pub fn place_of(p: i32) -> Placed
-    ensures { λ r. ⌜ r ≡ placedOf p ⌝ }
+pub fn position_of(p: i32) -> Position
+    ensures { λ r. ⌜ r ≡ positionOf p ⌝ }
 {
     if p < 0 {
-        return Placed::Unplaced;
+        return Position::Unplaced;
     }
-    Placed::At(p as u32)
+    Position::At(p as u32)
 }
 
 // Whether two reference ids are the same one. Two ids of -1 are.
@@ -229,11 +229,11 @@ pub fn same_id(a: i32, b: i32) -> bool
 }
 
 // The record's position, where it has one.
-pub fn start_of(s: &[u8]) -> Placed
+pub fn start_of(s: &[u8]) -> Position
     requires { ⌜ 32 ≤ length (now s) ⌝ }
-    ensures { λ r. ⌜ r ≡ placedOf ((header (now (s .entry))) .pos) ⌝ }
+    ensures { λ r. ⌜ r ≡ positionOf ((header (now (s .entry))) .pos) ⌝ }
 {
-    place_of(pos(s))
+    position_of(pos(s))
 }
 
 // Whether two records name one reference.

@@ -5,7 +5,7 @@ use mathlib.Core.List.{List}
 use native.Mathlib.Omega.{arith}
 use borrow.Author.Count.{below-more, below-none}
 use lib.ListN.{length}
-use Rattle.group_frames.specs.Table.{Placed}
+use Rattle.group_frames.specs.Table.{FrameTable}
 use Rattle.group_frames.proofs.PlaceLaws.{at-order, at-in}
 use Rattle.group_applying.specs.Within.{startIn, endIn}
 use Rattle.filed_writing.specs.Short.{Short, Tabled}
@@ -20,7 +20,7 @@ short-next begins k m h e = below-more _ k h e
 pub short-end : (begins : List ℕ) (n k m : ℕ) → Short begins k m → n ≤ k → Short begins n m
 short-end begins n k m h l = λ i b. h i (omega arith)
 
-module _ (s begins : List ℕ) (n : ℕ) (t : Placed s begins n) where
+module _ (s begins : List ℕ) (n : ℕ) (t : FrameTable s begins n) where
   pub tabled : length s < 18446744073709551616 → Tabled begins n
   tabled h = record {
     few = t .few;

@@ -14,7 +14,7 @@ use Rattle.strategy.specs.declared.Strategies.{Strategies}
 use Rattle.group_frames.specs.Part.{part, splice}
 use Rattle.group_frames.specs.declared.Framing.the-variants.{Whole}
 use Rattle.group_frames.specs.Frame.{beginOf, framesOf}
-use Rattle.group_frames.specs.Table.{Placed}
+use Rattle.group_frames.specs.Table.{FrameTable}
 use Rattle.group_mates.specs.Register.{pairsOf}
 use Rattle.group_applying.specs.declared.Applied.{Applied}
 use Rattle.group_applying.specs.Applied.{grown}
@@ -23,7 +23,7 @@ use Rattle.filed_writing.proofs.RecordLaws.{corrected-size}
 use Rattle.filed_writing.proofs.GrowthLaws.{all-most}
 use Rattle.filed_ending.specs.declared.Ending.{Ending}
 use Rattle.filed_ending.specs.declared.Ending.the-variants.{At}
-use Rattle.filed_ending.specs.Found.{Ended, Found}
+use Rattle.filed_ending.specs.Found.{FramesEnd, Found}
 use Rattle.filed_trailer.specs.Trailer.{stamped}
 use Rattle.filed.specs.Filed.{correctedWith}
 use Rattle.filed.specs.Final.{Final, FiledTo}
@@ -33,15 +33,15 @@ pub front-part : (s : List ℕ) (p : ℕ) → part s 0 p ≡ take p s
 front-part s p = let z : p - 0 ≡ p = omega arith in ap (λ (k : ℕ). take k s) z
 
 -- where the frames end, by their table
-pub table-end : (s begins : List ℕ) (n : ℕ) → Ended s begins n → getD begins n 0 ≡ beginOf s n
+pub table-end : (s begins : List ℕ) (n : ℕ) → FramesEnd s begins n → getD begins n 0 ≡ beginOf s n
 table-end s begins n e = e .placed .places n (omega arith) ∙ e .begin
 
-pub found-at : (s begins : List ℕ) (x : Ending) (n : ℕ) → x ≡ At n → Found s begins x → Ended s begins n
+pub found-at : (s begins : List ℕ) (x : Ending) (n : ℕ) → x ≡ At n → Found s begins x → FramesEnd s begins n
 found-at s begins x n e f = subst (Found s begins) e f
 
 -- what the table of the frames says where they end
-module _ (s begins : List ℕ) (n p : ℕ) (e : Ended s begins n) (ep : p ≡ beginOf s n) where
-  pub front-placed : Placed (part s 0 p) begins n
+module _ (s begins : List ℕ) (n p : ℕ) (e : FramesEnd s begins n) (ep : p ≡ beginOf s n) where
+  pub front-placed : FrameTable (part s 0 p) begins n
   front-placed = rw (front-part s p, ep) (e .placed)
 
   pub front-end : beginOf (part s 0 p) n ≡ p

@@ -16,9 +16,9 @@ ghost use Rattle.stats.specs.Counts.{full, plus};
 ghost use Rattle.stats.specs.Room.{Adds};
 ghost use Rattle.group_frames.specs.Part.{part, splice};
 ghost use Rattle.group_frames.specs.Frame.{beginOf};
-ghost use Rattle.group_frames.specs.Table.{Placed};
+ghost use Rattle.group_frames.specs.Table.{FrameTable};
 ghost use Rattle.group_mates.specs.Table.{Mated};
-ghost use Rattle.filed_ending.specs.Found.{Ended};
+ghost use Rattle.filed_ending.specs.Found.{FramesEnd};
 ghost use Rattle.filed_writing.specs.Short.{Short, Tabled};
 ghost use Rattle.filed_writing.specs.Written.{WrittenTo};
 ghost use Rattle.filed_trailer.specs.Trailer.{stamped};
@@ -86,7 +86,7 @@ fn write_small(
     w: Strategies,
     out: &mut [u8],
 ) -> Applied
-    requires { ⌜ Placed (now s) (now begins) n × Mated (now s) (now mate) n × (256 ≤ length (now lead)) × (beginOf (now s) n ≤ length (now out)) × Short (now begins) n 1024 ⌝ }
+    requires { ⌜ FrameTable (now s) (now begins) n × Mated (now s) (now mate) n × (256 ≤ length (now lead)) × (beginOf (now s) n ≤ length (now out)) × Short (now begins) n 1024 ⌝ }
     ensures { λ r. ⌜ WrittenTo w (now (s .entry)) n (now (out .entry)) (now (out .exit)) r ⌝ }
 {
     let mut left = [0u8; SMALL];
@@ -104,7 +104,7 @@ fn write_large(
     w: Strategies,
     out: &mut [u8],
 ) -> Applied
-    requires { ⌜ Placed (now s) (now begins) n × Mated (now s) (now mate) n × (256 ≤ length (now lead)) × (beginOf (now s) n ≤ length (now out)) ⌝ }
+    requires { ⌜ FrameTable (now s) (now begins) n × Mated (now s) (now mate) n × (256 ≤ length (now lead)) × (beginOf (now s) n ≤ length (now out)) ⌝ }
     ensures { λ r. ⌜ WrittenTo w (now (s .entry)) n (now (out .entry)) (now (out .exit)) r ⌝ }
 {
     let mut left = [0u8; 65536];
@@ -124,7 +124,7 @@ fn write_frames(
     out: &mut [u8],
     large: bool,
 ) -> Applied
-    requires { ⌜ Placed (now s) (now begins) n × Mated (now s) (now mate) n × (beginOf (now s) n ≤ length (now out)) ⌝ }
+    requires { ⌜ FrameTable (now s) (now begins) n × Mated (now s) (now mate) n × (beginOf (now s) n ≤ length (now out)) ⌝ }
     ensures { λ r. ⌜ WrittenTo w (now (s .entry)) n (now (out .entry)) (now (out .exit)) r ⌝ }
 {
     let mut lead = [0usize; 256];
@@ -158,7 +158,7 @@ fn write_filed(
     w: Strategies,
     out: &mut [u8],
 ) -> Applied
-    requires { ⌜ Ended (now filed) (now begins) n × (p ≡ beginOf (now filed) n) × Mated (take p (now filed)) (now mate) n × (length (now filed) ≡ p + 50) × (length (now filed) ≤ length (now out)) ⌝ }
+    requires { ⌜ FramesEnd (now filed) (now begins) n × (p ≡ beginOf (now filed) n) × Mated (take p (now filed)) (now mate) n × (length (now filed) ≡ p + 50) × (length (now filed) ≤ length (now out)) ⌝ }
     ensures { λ r. ⌜ FiledTo w (now (filed .entry)) p n (now (out .entry)) (now (out .exit)) r ⌝ }
 {
     let applied = write_frames(&filed[0..p], begins, n, mate, w, out, false);
@@ -194,7 +194,7 @@ fn correct_raw(
     out: &mut [u8],
     stats: CorrectionStats,
 ) -> Filed
-    requires { ⌜ Ended (now filed) (now begins) n × (p ≡ beginOf (now filed) n) × (length (now filed) ≡ p + 50) × (full stats ≡ false) ⌝ }
+    requires { ⌜ FramesEnd (now filed) (now begins) n × (p ≡ beginOf (now filed) n) × (length (now filed) ≡ p + 50) × (full stats ≡ false) ⌝ }
     ensures { λ r. ⌜ ended (r .answer) (now (out .exit)) (r .stats) ≡ onRaw (now (filed .entry)) (now (out .entry)) stats p strategies ⌝ }
 {
     let numbered = strategy::by_number((strategies / 3) as u32, (strategies % 3) as u32);
@@ -224,7 +224,7 @@ fn correct_ended(
     out: &mut [u8],
     stats: CorrectionStats,
 ) -> Filed
-    requires { ⌜ Ended (now filed) (now begins) n × (full stats ≡ false) ⌝ }
+    requires { ⌜ FramesEnd (now filed) (now begins) n × (full stats ≡ false) ⌝ }
     ensures { λ r. ⌜ ended (r .answer) (now (out .exit)) (r .stats) ≡ onEnding (now (filed .entry)) (now (out .entry)) stats (Ending.At n) ⌝ }
 {
     let p = begins[n];

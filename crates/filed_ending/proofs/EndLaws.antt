@@ -18,10 +18,10 @@ use Rattle.group_frames.specs.declared.Frame.the-variants.{To, Refused}
 use Rattle.group_frames.specs.declared.Framing.the-variants.{Whole}
 use Rattle.group_frames.specs.Part.{part}
 use Rattle.group_frames.specs.Frame.{beginOf, startOf, endOf, recordOf, frameOf, framesOf}
-use Rattle.group_frames.specs.Table.{Placed}
+use Rattle.group_frames.specs.Table.{FrameTable}
 use Rattle.filed_ending.specs.declared.Ending.the-variants.{At, Missing, Broken}
 use Rattle.filed_ending.specs.Ending.{zeroAt, onFrame, endingFrom, endingOf}
-use Rattle.filed_ending.specs.Found.{Ended}
+use Rattle.filed_ending.specs.Found.{FramesEnd}
 use Rattle.group_frames.proofs.CleanLaws.{Clean, Run, run-none, run-more, to-size, clean-sound, begin-alike, clean-alike, number-front, size-front, record-front, begin-front, clean-front, whole-clean, clean-whole}
 
 -- ---- four zero bytes
@@ -178,7 +178,7 @@ module _ (s : List ℕ) (n : ℕ) (e : Ends s n) where
   before-whole = clean-whole (before s n) n before-clean (before-begin n (omega arith) ∙ sym before-size) (e .few)
 
   -- and the table of s up to there is theirs
-  pub before-table : (begins : List ℕ) → Placed s begins n → Ended s begins n
+  pub before-table : (begins : List ℕ) → FrameTable s begins n → FramesEnd s begins n
   before-table begins t =
       record {
         placed = record {

@@ -11,18 +11,18 @@ use Rattle.refusal.specs.declared.Refusal.the-variants as Why
 use Rattle.group_frames.specs.declared.Frame.{Frame}
 use Rattle.group_frames.specs.declared.Frame.the-variants.{To, Refused}
 use Rattle.group_frames.specs.Frame.{beginOf, frameOf}
-use Rattle.group_frames.specs.Table.{Placed}
+use Rattle.group_frames.specs.Table.{FrameTable}
 use Rattle.group_frames.proofs.FrameLaws.{placed-start, placed-next}
 use Rattle.filed_ending.specs.declared.Ending.the-variants.{At, Missing, Broken}
 use Rattle.filed_ending.specs.Ending.{zeroAt, onFrame, endingFrom, endingOf}
-use Rattle.filed_ending.specs.Found.{Ended}
+use Rattle.filed_ending.specs.Found.{FramesEnd}
 use Rattle.filed_ending.proofs.EndLaws.{end-missing, end-zero, end-many, end-frame, ends-of, before-table}
 
 -- the loop has passed k frames, and p is where the next begins
 pub record Going (s begins : List ℕ) (k p : ℕ) : Type 0 where
   pub here : p ≡ beginOf s k
   pub left : endingFrom s (256 - k) k ≡ endingOf s
-  pub placed : Placed s begins k
+  pub placed : FrameTable s begins k
 
 pub going-start : (s begins : List ℕ) → 257 ≤ length begins → Going s (set begins 0 0) 0 0
 unfolding beginOf
@@ -32,7 +32,7 @@ module _ (s begins : List ℕ) (k p : ℕ) (g : Going s begins k p) where
   pub said-missing : length s ≤ p → Missing ≡ endingOf s
   said-missing h = sym (end-missing s k (256 - k) (omega (arith, g .here))) ∙ g .left
 
-  pub said-end : true ≡ zeroAt s p → (At k ≡ endingOf s) × Ended s begins k
+  pub said-end : true ≡ zeroAt s p → (At k ≡ endingOf s) × FramesEnd s begins k
   said-end h =
       let e : endingOf s ≡ At k = sym (g .left) ∙ end-zero s k (256 - k) (rw (g .here) at (sym h)) in
       (sym e, before-table s k (ends-of s k e) begins (g .placed))

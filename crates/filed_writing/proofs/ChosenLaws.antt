@@ -8,7 +8,7 @@ use Rattle.stats.specs.Counts.{zeroed}
 use Rattle.strategy.specs.declared.Strategies.{Strategies}
 use Rattle.group_frames.specs.Part.{part}
 use Rattle.group_frames.specs.Frame.{startOf, endOf, recordOf}
-use Rattle.group_frames.specs.Table.{Placed}
+use Rattle.group_frames.specs.Table.{FrameTable}
 use Rattle.group_mates.specs.Register.{matesOf}
 use Rattle.group_mates.specs.Table.{Mated}
 use Rattle.group_verdicts.specs.Judged.{pairAt}
@@ -18,7 +18,7 @@ use Rattle.filed_writing.specs.Lead.{Led}
 use Rattle.filed_writing.specs.Written.{corrected, applied, added, addedBy}
 use Rattle.filed_writing.proofs.RecordLaws.{first-becomes, last-becomes, alone-stays}
 
-module _ (w : Strategies) (s begins mate lead : List ℕ) (n : ℕ) (t : Placed s begins n) (u : Mated s mate n) (v : Led mate lead n) (k : ℕ) (below : k < n) where
+module _ (w : Strategies) (s begins mate lead : List ℕ) (n : ℕ) (t : FrameTable s begins n) (u : Mated s mate n) (v : Led mate lead n) (k : ℕ) (below : k < n) where
   -- ---- a record that has a mate
   module _ (some : getD mate k 0 ≡ 0 → ⊥) where
     pub first-in : getD mate k 0 - 1 < n

@@ -8,7 +8,7 @@ use native.Mathlib.Omega.{arith}
 use lib.ListN.{length, getD, set, length-set}
 use lib.Seq.{getD-set-same, getD-set-other}
 use Rattle.fields.proofs.Arith.{lt-or-le, eq-or-ne}
-use Rattle.group_mates.specs.Register.{placeAt, nameAt}
+use Rattle.group_mates.specs.Register.{roleAt, nameAt}
 use Rattle.group_mates.specs.Table.{Mated}
 use Rattle.group_mates.proofs.OnceLaws.{mate-below, mate-inj}
 use Rattle.filed_writing.specs.Lead.{Pairing, Led}
@@ -18,8 +18,8 @@ pub mated-pairing : (s mate : List ℕ) (n : ℕ) → n ≤ 256 → Mated s mate
 mated-pairing s mate n few m = record {
   few = few;
   wide = m .wide;
-  below = λ i j h e. mate-below (placeAt s) (nameAt s) n i j (sym (m .mates i h) ∙ e);
-  one = λ i k j h g e f. mate-inj (placeAt s) (nameAt s) n i k j (sym (m .mates i h) ∙ e) (sym (m .mates k g) ∙ f);
+  below = λ i j h e. mate-below (roleAt s) (nameAt s) n i j (sym (m .mates i h) ∙ e);
+  one = λ i k j h g e f. mate-inj (roleAt s) (nameAt s) n i k j (sym (m .mates i h) ∙ e) (sym (m .mates k g) ∙ f);
 }
 
 -- the mates of the first i records are entered

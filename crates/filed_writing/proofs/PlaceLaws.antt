@@ -7,12 +7,12 @@ use lib.ListN.{length, take}
 use lib.Seq.{take-length}
 use Rattle.group_frames.specs.Part.{splice}
 use Rattle.group_frames.specs.Frame.{startOf, endOf, recordOf}
-use Rattle.group_frames.specs.Table.{Placed}
+use Rattle.group_frames.specs.Table.{FrameTable}
 use Rattle.group_frames.proofs.PartLaws.{length-part}
 use Rattle.group_frames.proofs.PlaceLaws.{start-end, end-in, at-start, at-end, at-order}
 use Rattle.group_applying.specs.Within.{startIn, endIn}
 
-module _ (s begins : List ℕ) (n : ℕ) (t : Placed s begins n) (i : ℕ) (below : i < n) where
+module _ (s begins : List ℕ) (n : ℕ) (t : FrameTable s begins n) (i : ℕ) (below : i < n) where
   pub record-long : length (recordOf s i) ≡ endIn begins i - startIn begins i
   record-long =
       length-part s (startOf s i) (endOf s i) (start-end s i) (omega (arith, end-in s i n below, t .fit))

@@ -13,7 +13,7 @@ use Rattle.group_frames.specs.Part.{part}
 use Rattle.group_frames.specs.Frame.{beginOf, startOf, endOf, recordOf}
 use Rattle.group_frames.proofs.PartLaws.{length-part}
 use Rattle.group_frames.proofs.PlaceLaws.{begin-mono, start-end, end-in}
-use Rattle.group_mates.specs.Register.{placeAt, nameAt, matesOf, pairsOf}
+use Rattle.group_mates.specs.Register.{roleAt, nameAt, matesOf, pairsOf}
 use Rattle.group_mates.proofs.KeyLaws.{holder-le}
 use Rattle.group_mates.proofs.OnceLaws.{mated, none-there, pairs-once}
 use Rattle.group_mates.proofs.MateLaws.{made-among}
@@ -26,7 +26,7 @@ getD-part xs a e i h = getD-take (e - a) (drop a xs) i 0 h ∙ getD-drop a xs i 
 
 -- a record that has a mate is one of the group
 first-below : (s : List ℕ) (n i k : ℕ) → matesOf s n i ≡ suc k → i < n
-first-below s n i k e = omega (arith, mated (placeAt s) (nameAt s) n i k e .held, holder-le (placeAt s) (nameAt s) 1 (nameAt s i) n)
+first-below s n i k e = omega (arith, mated (roleAt s) (nameAt s) n i k e .held, holder-le (roleAt s) (nameAt s) 1 (nameAt s i) n)
 
 module _ (w : Strategies) (s : List ℕ) (n : ℕ) (fit : beginOf s n ≤ length s) where
   pub corrected-size : length (corrected w s n) ≡ length s

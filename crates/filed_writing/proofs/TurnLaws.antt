@@ -14,7 +14,7 @@ use Rattle.pair.specs.declared.Answer.{Answer}
 use Rattle.pair.specs.declared.Answer.the-variants.{NoOverlap, Overlap, Refused}
 use Rattle.group_frames.specs.Part.{part, splice}
 use Rattle.group_frames.specs.Frame.{beginOf, startOf, endOf, recordOf}
-use Rattle.group_frames.specs.Table.{Placed}
+use Rattle.group_frames.specs.Table.{FrameTable}
 use Rattle.group_frames.proofs.PartLaws.{length-part}
 use Rattle.group_frames.proofs.PlaceLaws.{start-end, end-in, at-start}
 use Rattle.group_mates.specs.Register.{matesOf, mateCons, pairsOf}
@@ -109,7 +109,7 @@ pub filling-start : (w : Strategies) (s : List ℕ) (n : ℕ) (out : List ℕ) �
 unfolding beginOf
 filling-start w s n out = record { front = refl; behind = refl; size = refl }
 
-module _ (w : Strategies) (s begins : List ℕ) (n : ℕ) (t : Placed s begins n) (out₀ : List ℕ) (fits : beginOf s n ≤ length out₀) (k : ℕ) (below : k < n) (out : List ℕ)
+module _ (w : Strategies) (s begins : List ℕ) (n : ℕ) (t : FrameTable s begins n) (out₀ : List ℕ) (fits : beginOf s n ≤ length out₀) (k : ℕ) (below : k < n) (out : List ℕ)
     (a : Filling w s n k out₀ out) where
   here : getD begins k 0 ≡ beginOf s k
   here = t .places k (omega arith)

@@ -11,7 +11,7 @@ ghost use lib.ListN.{length, getD, take};
 ghost use Rattle.stats.specs.Counts.{zeroed};
 ghost use Rattle.group_frames.specs.Part.{part, splice};
 ghost use Rattle.group_frames.specs.Frame.{beginOf, startOf, endOf, recordOf};
-ghost use Rattle.group_frames.specs.Table.{Placed};
+ghost use Rattle.group_frames.specs.Table.{FrameTable};
 ghost use Rattle.group_mates.specs.Register.{matesOf};
 ghost use Rattle.group_mates.specs.Table.{Mated};
 ghost use Rattle.group_applying.specs.Within.{startIn, endIn};
@@ -110,7 +110,7 @@ fn treat_pair(
     left: &mut [u8],
     right: &mut [u8],
 ) -> Applied
-    requires { ⌜ Placed (now s) (now begins) n × (i < n) × (j < n) × Short (now begins) n (length (now left)) × Short (now begins) n (length (now right)) ⌝ }
+    requires { ⌜ FrameTable (now s) (now begins) n × (i < n) × (j < n) × Short (now begins) n (length (now left)) × Short (now begins) n (length (now right)) ⌝ }
     ensures { λ r. ⌜ Copied w (recordOf (now (s .entry)) i) (recordOf (now (s .entry)) j) (now (left .exit)) (now (right .exit)) r ⌝ }
 {
     let first = group_frames::record_at(s, begins, i);
@@ -153,7 +153,7 @@ fn write_record(
     right: &mut [u8],
     out: &mut [u8],
 ) -> Applied
-    requires { ⌜ Placed (now s) (now begins) n × Mated (now s) (now mate) n × Led (now mate) (now lead) n × (k < n) × Short (now begins) n (length (now left)) × Short (now begins) n (length (now right)) × (endOf (now s) k ≤ length (now out)) × Front (corrected w (now s) n) (now out) (startOf (now s) k) ⌝ }
+    requires { ⌜ FrameTable (now s) (now begins) n × Mated (now s) (now mate) n × Led (now mate) (now lead) n × (k < n) × Short (now begins) n (length (now left)) × Short (now begins) n (length (now right)) × (endOf (now s) k ≤ length (now out)) × Front (corrected w (now s) n) (now out) (startOf (now s) k) ⌝ }
     ensures { λ r. ⌜ (now (out .exit) ≡ splice (now (out .entry)) (startOf (now (s .entry)) k) (endOf (now (s .entry)) k) (part (corrected w (now (s .entry)) n) (startOf (now (s .entry)) k) (endOf (now (s .entry)) k))) × (r ≡ addedBy w (now (s .entry)) k (matesOf (now (s .entry)) n k)) ⌝ }
 {
     let m = mate[k];
@@ -185,7 +185,7 @@ pub fn write_all(
     right: &mut [u8],
     out: &mut [u8],
 ) -> Applied
-    requires { ⌜ Placed (now s) (now begins) n × Mated (now s) (now mate) n × (256 ≤ length (now lead)) × Short (now begins) n (length (now left)) × Short (now begins) n (length (now right)) × (beginOf (now s) n ≤ length (now out)) ⌝ }
+    requires { ⌜ FrameTable (now s) (now begins) n × Mated (now s) (now mate) n × (256 ≤ length (now lead)) × Short (now begins) n (length (now left)) × Short (now begins) n (length (now right)) × (beginOf (now s) n ≤ length (now out)) ⌝ }
     ensures { λ r. ⌜ WrittenTo w (now (s .entry)) n (now (out .entry)) (now (out .exit)) r ⌝ }
 {
     enter_leads(mate, n, lead);

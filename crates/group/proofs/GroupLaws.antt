@@ -15,7 +15,7 @@ use Rattle.strategy.specs.Number.{numberedOf}
 use Rattle.group_frames.specs.declared.Framing.{Framing}
 use Rattle.group_frames.specs.declared.Framing.the-variants.{Whole, Broken}
 use Rattle.group_frames.specs.Frame.{framesOf}
-use Rattle.group_frames.specs.Table.{Placed, Filled}
+use Rattle.group_frames.specs.Table.{FrameTable, Filled}
 use Rattle.group_mates.specs.Register.{pairsOf}
 use Rattle.group_verdicts.specs.declared.Verdict.{Verdict}
 use Rattle.group_verdicts.specs.declared.Verdict.the-variants as Verdicts
@@ -29,7 +29,7 @@ use Rattle.group.specs.declared.GroupAnswer.{GroupAnswer}
 use Rattle.group.specs.declared.GroupAnswer.the-variants.{Done, Refused}
 use Rattle.group.specs.Group.{Ended, ended, onPairs, onFrames, framedOf, onNumbered, groupOf}
 
-pub filled : (s begins : List ℕ) (n : ℕ) (f : Framing) → f ≡ Whole n → Filled s begins f → Placed s begins n
+pub filled : (s begins : List ℕ) (n : ℕ) (f : Framing) → f ≡ Whole n → Filled s begins f → FrameTable s begins n
 filled s begins n f e t = subst (Filled s begins) e t
 
 -- a refusal that the code gives

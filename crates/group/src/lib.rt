@@ -9,7 +9,7 @@ ghost use mathlib.Core.Path.{_≡_};
 ghost use mathlib.Core.Bool.{false};
 ghost use Rattle.stats.specs.Counts.{full};
 ghost use Rattle.group_frames.specs.Frame.{framesOf};
-ghost use Rattle.group_frames.specs.Table.{Placed};
+ghost use Rattle.group_frames.specs.Table.{FrameTable};
 ghost use Rattle.group.specs.Group.{ended, framedOf, groupOf};
 
 // What a group call answers: how many records, pairs and overlapping pairs there are, or why it is
@@ -48,7 +48,7 @@ fn group_pairs(
     w: Strategies,
     stats: CorrectionStats,
 ) -> Grouped
-    requires { ⌜ Placed (now buf) (now begins) n × (framesOf (now buf) ≡ Framing.Whole n) × (full stats ≡ false) ⌝ }
+    requires { ⌜ FrameTable (now buf) (now begins) n × (framesOf (now buf) ≡ Framing.Whole n) × (full stats ≡ false) ⌝ }
     ensures { λ r. ⌜ ended (r .answer) (now (buf .exit)) (r .stats) ≡ framedOf w (now (buf .entry)) stats ⌝ }
 {
     let mut mate = [1usize; 256];

@@ -18,7 +18,7 @@ use Rattle.pair.specs.declared.Answer.the-variants.{NoOverlap, Overlap, Refused
 use Rattle.pair.specs.Pair.{Outcome, pairOf}
 use Rattle.group_frames.specs.Part.{part, splice}
 use Rattle.group_frames.specs.Frame.{beginOf, startOf, endOf, recordOf}
-use Rattle.group_frames.specs.Table.{Placed}
+use Rattle.group_frames.specs.Table.{FrameTable}
 use Rattle.group_frames.proofs.PartLaws.{length-part}
 use Rattle.group_frames.proofs.PlaceLaws.{at-start, at-end, at-order, at-in}
 use Rattle.group_mates.specs.Register.{matesOf, mateCons, pairsFrom, pairsOf}
@@ -89,7 +89,7 @@ module _ (w : Strategies) (s₀ : List ℕ) (g₀ : CorrectionStats) (n i : ℕ)
     pub few-more : p < 128
     few-more = omega (arith, now-at .few)
 
-    module _ (begins : List ℕ) (t : Placed s₀ begins n) where
+    module _ (begins : List ℕ) (t : FrameTable s₀ begins n) where
       start₁ : startIn begins i ≡ startOf s₀ i
       start₁ = at-start s₀ begins n t i below
 

@@ -7,7 +7,7 @@ ghost use mathlib.Core.Path.{_≡_};
 ghost use Prim.Native.Nat.{_*_, _≤_};
 ghost use lib.ListN.{length};
 ghost use Rattle.stats.specs.Room.{Room};
-ghost use Rattle.group_frames.specs.Table.{Placed};
+ghost use Rattle.group_frames.specs.Table.{FrameTable};
 ghost use Rattle.group_mates.specs.Register.{pairsOf};
 ghost use Rattle.group_mates.specs.Table.{Mated};
 ghost use Rattle.group_applying.specs.Applied.{overlapCount, AppliedTo};
@@ -86,7 +86,7 @@ pub fn apply_all(
     w: Strategies,
     stats: CorrectionStats,
 ) -> Applied
-    requires { ⌜ Placed (now buf) (now begins) n × Mated (now buf) (now mate) n × (65536 ≤ length (now room)) × Room stats (128 * 131072) ⌝ }
+    requires { ⌜ FrameTable (now buf) (now begins) n × Mated (now buf) (now mate) n × (65536 ≤ length (now room)) × Room stats (128 * 131072) ⌝ }
     ensures { λ r. ⌜ AppliedTo w (now (buf .entry)) (pairsOf (now (buf .entry)) n) stats (now (buf .exit)) r ⌝ }
 {
     let mut pairs: usize = 0;

@@ -27,7 +27,7 @@ use Rattle.group_frames.specs.declared.Framing.{Framing}
 use Rattle.group_frames.specs.declared.Framing.the-variants.{Whole, Broken}
 use Rattle.group_frames.specs.Part.{part}
 use Rattle.group_frames.specs.Frame.{frameEnd, beginOf, startOf, endOf, recordOf, onChecked, frameOf, onFrame, framesFrom, framesOf}
-use Rattle.group_frames.specs.Table.{Placed, Filled}
+use Rattle.group_frames.specs.Table.{FrameTable, Filled}
 
 -- ---- one frame, by what the code finds
 module _ (s : List ℕ) (p k : ℕ) (inside : p ≤ length s) where
@@ -76,9 +76,9 @@ to-framed s p k e h = go (ltb (length s) (p + 4)) (ltb (length s) (frameEnd s p)
 pub record Going (s begins : List ℕ) (k p : ℕ) : Type 0 where
   pub here : p ≡ beginOf s k
   pub left : framesFrom s (256 - k) k ≡ framesOf s
-  pub placed : Placed s begins k
+  pub placed : FrameTable s begins k
 
-pub placed-start : (s begins : List ℕ) → 257 ≤ length begins → Placed s (set begins 0 0) 0
+pub placed-start : (s begins : List ℕ) → 257 ≤ length begins → FrameTable s (set begins 0 0) 0
 unfolding beginOf
 placed-start s begins h = record {
   few = omega arith;
@@ -93,8 +93,8 @@ unfolding beginOf
 going-start s begins h = record { here = refl; left = refl; placed = placed-start s begins h }
 
 -- one frame more in the table: it ends where the next begins
-pub placed-next : (s begins : List ℕ) (k : ℕ) → Placed s begins k → k < 256 → (q : ℕ) → frameOf s (beginOf s k) k ≡ To q
-    → (q ≡ beginOf s (k + 1)) × Placed s (set begins (k + 1) q) (k + 1)
+pub placed-next : (s begins : List ℕ) (k : ℕ) → FrameTable s begins k → k < 256 → (q : ℕ) → frameOf s (beginOf s k) k ≡ To q
+    → (q ≡ beginOf s (k + 1)) × FrameTable s (set begins (k + 1) q) (k + 1)
 unfolding startOf endOf beginOf
 placed-next s begins k t room q h =
     let d = to-framed s (beginOf s k) k q h in
@@ -160,7 +160,7 @@ module _ (s begins : List ℕ) (k p : ℕ) (g : Going s begins k p) where
         let z : 256 - k ≡ 0 = omega arith in
         sym (frames-many s k (omega (arith, g .here))) ∙ ap (λ (w : ℕ). framesFrom s w k) (sym z) ∙ g .left
 
-    pub said-all : length s ≤ p → (Whole 256 ≡ framesOf s) × Placed s begins 256
+    pub said-all : length s ≤ p → (Whole 256 ≡ framesOf s) × FrameTable s begins 256
     said-all l =
         let e : k ≡ 256 = omega (arith, g .placed .few) in
         (ap Whole (sym e) ∙ said-none l, rw e at (g .placed))

@@ -13,7 +13,7 @@ use Rattle.fields.specs.Layout.{layoutOf}
 use Rattle.fields.specs.Sound.{Sound}
 use Rattle.group_frames.specs.Part.{part, splice}
 use Rattle.group_frames.specs.Frame.{beginOf, startOf, endOf, recordOf, putRecord}
-use Rattle.group_frames.specs.Table.{Placed}
+use Rattle.group_frames.specs.Table.{FrameTable}
 use Rattle.group_frames.proofs.PartLaws.{length-part, part-put, part-after, part-before}
 
 -- ---- in order, and apart
@@ -68,7 +68,7 @@ module _ (s₀ : List ℕ) (n : ℕ) (fit : beginOf s₀ n ≤ length s₀) (s x
       h
 
 -- ---- record i, by the table
-module _ (s begins : List ℕ) (n : ℕ) (t : Placed s begins n) (i : ℕ) (h : i < n) where
+module _ (s begins : List ℕ) (n : ℕ) (t : FrameTable s begins n) (i : ℕ) (h : i < n) where
   pub at-start : getD begins i 0 + 4 ≡ startOf s i
   unfolding startOf
   at-start = omega (arith, t .places i (omega arith))

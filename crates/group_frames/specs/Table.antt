@@ -10,7 +10,7 @@ use Rattle.group_frames.specs.declared.Framing.{Framing}
 use Rattle.group_frames.specs.declared.Framing.the-variants.{Whole, Broken}
 
 -- n frames lie in s, each with a sound record; the table has where each begins, and where the last ends
-pub record Placed (s begins : List ℕ) (n : ℕ) : Type 0 where
+pub record FrameTable (s begins : List ℕ) (n : ℕ) : Type 0 where
   pub few : n ≤ 256
   pub wide : 257 ≤ length begins
   pub places : (k : ℕ) → k < n + 1 → getD begins k 0 ≡ beginOf s k
@@ -19,5 +19,5 @@ pub record Placed (s begins : List ℕ) (n : ℕ) : Type 0 where
 
 -- a group that is cut whole fills it
 abbrev pub Filled : List ℕ → List ℕ → Framing → Type 0
-Filled s begins (Whole n) = Placed s begins n
+Filled s begins (Whole n) = FrameTable s begins n
 Filled s begins (Broken r) = Unit {0}

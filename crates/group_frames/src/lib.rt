@@ -5,7 +5,7 @@ ghost use mathlib.Core.Path.{_≡_};
 ghost use Prim.Native.Nat.{ℕ, _<_, _≤_};
 ghost use lib.ListN.{length};
 ghost use Rattle.group_frames.specs.Frame.{frameOf, framesOf, recordOf};
-ghost use Rattle.group_frames.specs.Table.{Placed, Filled};
+ghost use Rattle.group_frames.specs.Table.{FrameTable, Filled};
 
 // How many records a group may have.
 pub const MOST: usize = 256;
@@ -78,7 +78,7 @@ pub fn cut(s: &[u8], begins: &mut [usize]) -> Framing
 
 // Record k of a group by its table, as a part of the group.
 pub fn record_at<'a>(s: &'a [u8], begins: &[usize], k: usize) -> &'a [u8]
-    requires { ⌜ ((n : ℕ) × Placed (now s) (now begins) n × (k < n)) ⌝ }
+    requires { ⌜ ((n : ℕ) × FrameTable (now s) (now begins) n × (k < n)) ⌝ }
     ensures { λ r. ⌜ now r ≡ recordOf (now (s .entry)) k ⌝ }
 {
     let start = begins[k] + 4;

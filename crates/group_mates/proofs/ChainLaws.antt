@@ -13,9 +13,9 @@ use lib.ListN.{length, getD, set, length-set}
 use lib.Seq.{getD-set-same, getD-set-other}
 use Rattle.fields.specs.Layout.{nameIn}
 use Rattle.group_frames.specs.Frame.{recordOf}
-use Rattle.group_mates.specs.Register.{placeIn, placeAt, nameAt, fits, holder}
+use Rattle.group_mates.specs.Register.{roleIn, roleAt, nameAt, fits, holder}
 use Rattle.group_mates.specs.Table.{keyIn, Keyed, chainOf, lastIn, Chained}
-use Rattle.group_mates.proofs.KeyLaws.{place-small, holder-no}
+use Rattle.group_mates.proofs.KeyLaws.{role-small, holder-no}
 use Rattle.group_names.specs.Same.{sameBytes}
 use Rattle.group_names.specs.Digest.{digestOf}
 use Rattle.group_names.proofs.NameLaws.{and-true, same-true}
@@ -40,30 +40,30 @@ last-of key h (suc n) j e = go (last-of key h n j) (eqb (chainOf (getD key n 0))
     go up false f g = up g
 
 -- records that fit are of one chain
-pub fits-chain : (x y : List ℕ) (kx ky q : ℕ) → kx ≡ keyIn x → ky ≡ keyIn y → (eqb (placeIn x) q && sameBytes (nameIn x) (nameIn y)) ≡ true → chainOf kx ≡ chainOf ky
+pub fits-chain : (x y : List ℕ) (kx ky q : ℕ) → kx ≡ keyIn x → ky ≡ keyIn y → (eqb (roleIn x) q && sameBytes (nameIn x) (nameIn y)) ≡ true → chainOf kx ≡ chainOf ky
 unfolding keyIn
 fits-chain x y kx ky q ex ey t =
-    let p = and-true (eqb (placeIn x) q) (sameBytes (nameIn x) (nameIn y)) t in
-    let e : kx / 4 ≡ ky / 4 = omega (arith, ex, ey, place-small x, place-small y, ap digestOf (same-true (nameIn x) (nameIn y) (p .1))) in
+    let p = and-true (eqb (roleIn x) q) (sameBytes (nameIn x) (nameIn y)) t in
+    let e : kx / 4 ≡ ky / 4 = omega (arith, ex, ey, role-small x, role-small y, ap digestOf (same-true (nameIn x) (nameIn y) (p .1))) in
     ap (λ (z : ℕ). z / 16777216 % 256) e
 
 module _ (s key : List ℕ) (n : ℕ) (u : Keyed s key n) (q i : ℕ) (below : i < n) where
   abbrev h : ℕ
   h = chainOf (getD key i 0)
 
-  pub passed : (m : ℕ) → m ≤ n → holder (placeAt s) (nameAt s) q (nameAt s i) (lastIn key (chainOf (getD key i 0)) m) ≡ holder (placeAt s) (nameAt s) q (nameAt s i) m
+  pub passed : (m : ℕ) → m ≤ n → holder (roleAt s) (nameAt s) q (nameAt s i) (lastIn key (chainOf (getD key i 0)) m) ≡ holder (roleAt s) (nameAt s) q (nameAt s i) m
   unfolding lastIn holder
   passed zero l = refl
   passed (suc m) l = go (passed m (omega arith)) (eqb (chainOf (getD key m 0)) h) refl
     where
-      not-it : (v : Bool) → fits (placeAt s) (nameAt s) q (nameAt s i) m ≡ v → eqb (chainOf (getD key m 0)) h ≡ false → v ≡ false
+      not-it : (v : Bool) → fits (roleAt s) (nameAt s) q (nameAt s i) m ≡ v → eqb (chainOf (getD key m 0)) h ≡ false → v ≡ false
       not-it true f e = absurd (eqb-false (chainOf (getD key m 0)) h e (fits-chain (recordOf s m) (recordOf s i) (getD key m 0) (getD key i 0) q (u .keys m (omega arith)) (u .keys i below) f))
       not-it false f e = refl
 
-      go : holder (placeAt s) (nameAt s) q (nameAt s i) (lastIn key h m) ≡ holder (placeAt s) (nameAt s) q (nameAt s i) m → (t : Bool) → eqb (chainOf (getD key m 0)) h ≡ t
-          → holder (placeAt s) (nameAt s) q (nameAt s i) (cond t (suc m) (lastIn key h m)) ≡ holder (placeAt s) (nameAt s) q (nameAt s i) (suc m)
+      go : holder (roleAt s) (nameAt s) q (nameAt s i) (lastIn key h m) ≡ holder (roleAt s) (nameAt s) q (nameAt s i) m → (t : Bool) → eqb (chainOf (getD key m 0)) h ≡ t
+          → holder (roleAt s) (nameAt s) q (nameAt s i) (cond t (suc m) (lastIn key h m)) ≡ holder (roleAt s) (nameAt s) q (nameAt s i) (suc m)
       go up true e = refl
-      go up false e = up ∙ ap (λ (t : Bool). cond t (suc m) (holder (placeAt s) (nameAt s) q (nameAt s i) m)) (sym (not-it (fits (placeAt s) (nameAt s) q (nameAt s i) m) refl e))
+      go up false e = up ∙ ap (λ (t : Bool). cond t (suc m) (holder (roleAt s) (nameAt s) q (nameAt s i) m)) (sym (not-it (fits (roleAt s) (nameAt s) q (nameAt s i) m) refl e))
 
 -- a list with one entry changed
 set-at : (l : List ℕ) (h j v : ℕ) → h < length l → getD (set l h v) j 0 ≡ cond (eqb h j) v (getD l j 0)
@@ -121,29 +121,29 @@ linked-all key head next n k c e = let d = rw e at c in record { wide = d .wide;
 pub record Walking (s key : List ℕ) (n q i c : ℕ) : Type 0 where
   pub low : c ≤ n
   pub chain : (j : ℕ) → c ≡ suc j → chainOf (getD key j 0) ≡ chainOf (getD key i 0)
-  pub left : holder (placeAt s) (nameAt s) q (nameAt s i) c ≡ holder (placeAt s) (nameAt s) q (nameAt s i) n
+  pub left : holder (roleAt s) (nameAt s) q (nameAt s i) c ≡ holder (roleAt s) (nameAt s) q (nameAt s i) n
 
 module _ (s key : List ℕ) (n : ℕ) (u : Keyed s key n) (q i : ℕ) (below : i < n) where
   pub walking-start : (c : ℕ) → c ≡ lastIn key (chainOf (getD key i 0)) n → Walking s key n q i c
   walking-start c e = record {
     low = omega (arith, e, last-le key (chainOf (getD key i 0)) n);
     chain = λ j f. last-of key (chainOf (getD key i 0)) n j (sym e ∙ f);
-    left = ap (holder (placeAt s) (nameAt s) q (nameAt s i)) e ∙ passed s key n u q i below n (omega arith);
+    left = ap (holder (roleAt s) (nameAt s) q (nameAt s i)) e ∙ passed s key n u q i below n (omega arith);
   }
 
   module _ (c : ℕ) (w : Walking s key n q i c) (some : c ≡ 0 → ⊥) where
     pub is-suc : c ≡ suc (c - 1)
     is-suc = omega arith
 
-    pub walking-next : (r : Bool) (d : ℕ) → r ≡ fits (placeAt s) (nameAt s) q (nameAt s i) (c - 1) → r ≡ false → d ≡ lastIn key (chainOf (getD key (c - 1) 0)) (c - 1) → Walking s key n q i d
+    pub walking-next : (r : Bool) (d : ℕ) → r ≡ fits (roleAt s) (nameAt s) q (nameAt s i) (c - 1) → r ≡ false → d ≡ lastIn key (chainOf (getD key (c - 1) 0)) (c - 1) → Walking s key n q i d
     walking-next r d e f g =
         let b : chainOf (getD key (c - 1) 0) ≡ chainOf (getD key i 0) = w .chain (c - 1) is-suc in
         let g′ : d ≡ lastIn key (chainOf (getD key i 0)) (c - 1) = g ∙ ap (λ (z : ℕ). lastIn key z (c - 1)) b in
         record {
           low = omega (arith, g, last-le key (chainOf (getD key (c - 1) 0)) (c - 1), w .low);
           chain = λ j h. last-of key (chainOf (getD key i 0)) (c - 1) j (sym g′ ∙ h);
-          left = ap (holder (placeAt s) (nameAt s) q (nameAt s i)) g′
+          left = ap (holder (roleAt s) (nameAt s) q (nameAt s i)) g′
               ∙ passed s key n u q i below (c - 1) (omega (arith, w .low))
-              ∙ holder-no (placeAt s) (nameAt s) q (nameAt s i) c (omega arith) r e f
+              ∙ holder-no (roleAt s) (nameAt s) q (nameAt s i) c (omega arith) r e f
               ∙ w .left;
         }

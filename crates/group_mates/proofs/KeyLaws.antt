@@ -9,7 +9,7 @@ use borrow.Author.Tests.{eqb-true, eq-eqb, ne-eqb}
 use lib.Dec.{eqb}
 use Rattle.fields.specs.Flag.{hasBit, firstSegment, lastSegment, secondary, supplementary}
 use Rattle.fields.specs.Layout.{header, nameIn}
-use Rattle.group_mates.specs.Register.{placeBy, placeIn, nameAt, fits, holder, mateOf}
+use Rattle.group_mates.specs.Register.{roleBy, roleIn, nameAt, fits, holder, mateOf}
 use Rattle.group_mates.specs.Table.{keyIn}
 use Rattle.group_names.specs.Same.{sameBytes}
 use Rattle.group_names.specs.Digest.{digestOf}
@@ -19,29 +19,29 @@ cond-small : (t : Bool) (a b : ℕ) → a < 3 → b < 3 → cond t a b < 3
 cond-small true a b h k = h
 cond-small false a b h k = k
 
-pub place-small : (r : List ℕ) → placeIn r < 3
-unfolding placeIn placeBy
-place-small r =
+pub role-small : (r : List ℕ) → roleIn r < 3
+unfolding roleIn roleBy
+role-small r =
     let f = header r .flags in
     cond-small (hasBit f secondary || hasBit f supplementary) 0 _ (omega arith)
     (cond-small (hasBit f firstSegment) 1 _ (omega arith) (cond-small (hasBit f lastSegment) 2 0 (omega arith) (omega arith)))
 
 module _ (x y : List ℕ) (kx ky q : ℕ) (ex : kx ≡ keyIn x) (ey : ky ≡ keyIn y) (small : q < 4) where
-  -- other keys: another place or another name
-  pub not-fits : (kx ≡ ky / 4 * 4 + q → ⊥) → false ≡ (eqb (placeIn x) q && sameBytes (nameIn x) (nameIn y))
+  -- other keys: another role or another name
+  pub not-fits : (kx ≡ ky / 4 * 4 + q → ⊥) → false ≡ (eqb (roleIn x) q && sameBytes (nameIn x) (nameIn y))
   unfolding keyIn
-  not-fits h = go (eqb (placeIn x) q) refl (sameBytes (nameIn x) (nameIn y)) refl
+  not-fits h = go (eqb (roleIn x) q) refl (sameBytes (nameIn x) (nameIn y)) refl
     where
-      go : (t : Bool) → eqb (placeIn x) q ≡ t → (u : Bool) → sameBytes (nameIn x) (nameIn y) ≡ u → false ≡ (t && u)
-      go true e true f = absurd (h (omega (arith, ex, ey, eqb-true (placeIn x) q e, ap digestOf (same-true (nameIn x) (nameIn y) f), place-small y)))
+      go : (t : Bool) → eqb (roleIn x) q ≡ t → (u : Bool) → sameBytes (nameIn x) (nameIn y) ≡ u → false ≡ (t && u)
+      go true e true f = absurd (h (omega (arith, ex, ey, eqb-true (roleIn x) q e, ap digestOf (same-true (nameIn x) (nameIn y) f), role-small y)))
       go true e false f = refl
       go false e true f = refl
       go false e false f = refl
 
-  -- equal keys: equal places
-  pub fits-name : (r : Bool) → kx ≡ ky / 4 * 4 + q → r ≡ sameBytes (nameIn x) (nameIn y) → r ≡ (eqb (placeIn x) q && sameBytes (nameIn x) (nameIn y))
+  -- equal keys: equal roles
+  pub fits-name : (r : Bool) → kx ≡ ky / 4 * 4 + q → r ≡ sameBytes (nameIn x) (nameIn y) → r ≡ (eqb (roleIn x) q && sameBytes (nameIn x) (nameIn y))
   unfolding keyIn
-  fits-name r h e = rw (eq-eqb (placeIn x) q (omega (arith, ex, ey, h, place-small x))) e
+  fits-name r h e = rw (eq-eqb (roleIn x) q (omega (arith, ex, ey, h, role-small x))) e
 
 -- a record has its own name
 pub own-name : (s : List ℕ) (i j : ℕ) → j ≡ i → true ≡ sameBytes (nameAt s j) (nameAt s i)
@@ -74,9 +74,9 @@ holder-le P N q x (suc n) = go (holder-le P N q x n) (fits P N q x n)
     go h true = omega arith
     go h false = omega arith
 
-pub key-place : (r : List ℕ) (d : ℕ) → d ≡ keyIn r → d % 4 ≡ placeIn r
+pub key-role : (r : List ℕ) (d : ℕ) → d ≡ keyIn r → d % 4 ≡ roleIn r
 unfolding keyIn
-key-place r d e = omega (arith, e, place-small r)
+key-role r d e = omega (arith, e, role-small r)
 
 module _ (P : ℕ → ℕ) (N : ℕ → List ℕ) (n i : ℕ) where
   pub mate-none : (P i ≡ 1 → ⊥) → 0 ≡ mateOf P N n i

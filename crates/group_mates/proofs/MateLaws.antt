@@ -8,7 +8,7 @@ use native.Mathlib.Omega.{arith}
 use borrow.Author.Tests.{eqb-true, eq-eqb}
 use lib.Dec.{eqb}
 use Rattle.fields.proofs.Arith.{lt-or-le}
-use Rattle.group_mates.specs.Register.{placeAt, nameAt, fits, holder, mateOf, matesOf, mateCons, pairsFrom, pairsOf}
+use Rattle.group_mates.specs.Register.{roleAt, nameAt, fits, holder, mateOf, matesOf, mateCons, pairsFrom, pairsOf}
 use Rattle.fields.specs.Among.{Among}
 use Rattle.fields.proofs.AmongLaws.{here, later, among-cons, among-none}
 use Rattle.group_mates.specs.Promise.{Mates}
@@ -56,15 +56,15 @@ module _ (P : ℕ → ℕ) (N : ℕ → List ℕ) (q : ℕ) (x : List ℕ) where
 pub mate-mates : (s : List ℕ) (n i j : ℕ) → i < n → matesOf s n i ≡ suc j → Mates s n i j
 unfolding mateOf
 mate-mates s n i j b e =
-    let m = mated (placeAt s) (nameAt s) n i j e in
-    let h = go (eqb (placeAt s i) 1 && eqb (holder (placeAt s) (nameAt s) 1 (nameAt s i) n) (suc i)) e in
+    let m = mated (roleAt s) (nameAt s) n i j e in
+    let h = go (eqb (roleAt s i) 1 && eqb (holder (roleAt s) (nameAt s) 1 (nameAt s i) n) (suc i)) e in
     record {
-      first = record { below = b; place = m .own; last = holder-last (placeAt s) (nameAt s) 1 (nameAt s i) n i (m .held) };
-      second = record { below = m .mate .below; place = m .mate .place; last = λ k a c p w. holder-last (placeAt s) (nameAt s) 2 (nameAt s i) n j h k a c p (w ∙ m .mate .name) };
+      first = record { below = b; role = m .own; last = holder-last (roleAt s) (nameAt s) 1 (nameAt s i) n i (m .held) };
+      second = record { below = m .mate .below; role = m .mate .role; last = λ k a c p w. holder-last (roleAt s) (nameAt s) 2 (nameAt s i) n j h k a c p (w ∙ m .mate .name) };
       name = m .mate .name;
     }
   where
-    go : (t : Bool) → cond t (holder (placeAt s) (nameAt s) 2 (nameAt s i) n) 0 ≡ suc j → holder (placeAt s) (nameAt s) 2 (nameAt s i) n ≡ suc j
+    go : (t : Bool) → cond t (holder (roleAt s) (nameAt s) 2 (nameAt s i) n) 0 ≡ suc j → holder (roleAt s) (nameAt s) 2 (nameAt s i) n ≡ suc j
     go true e = e
     go false e = absurd (omega arith)
 
@@ -73,9 +73,9 @@ unfolding mateOf
 mates-mate s n i j m =
     let f = m .first in
     let g = m .second in
-    let a : holder (placeAt s) (nameAt s) 1 (nameAt s i) n ≡ suc i = holder-is (placeAt s) (nameAt s) 1 (nameAt s i) n i (f .below) (f .place) refl (f .last) in
-    let b : holder (placeAt s) (nameAt s) 2 (nameAt s i) n ≡ suc j = holder-is (placeAt s) (nameAt s) 2 (nameAt s i) n j (g .below) (g .place) (m .name) (λ h p c q w. g .last h p c q (w ∙ sym (m .name))) in
-    simp (eq-eqb (placeAt s i) 1 (f .place), eq-eqb (holder (placeAt s) (nameAt s) 1 (nameAt s i) n) (suc i) a) b
+    let a : holder (roleAt s) (nameAt s) 1 (nameAt s i) n ≡ suc i = holder-is (roleAt s) (nameAt s) 1 (nameAt s i) n i (f .below) (f .role) refl (f .last) in
+    let b : holder (roleAt s) (nameAt s) 2 (nameAt s i) n ≡ suc j = holder-is (roleAt s) (nameAt s) 2 (nameAt s i) n j (g .below) (g .role) (m .name) (λ h p c q w. g .last h p c q (w ∙ sym (m .name))) in
+    simp (eq-eqb (roleAt s i) 1 (f .role), eq-eqb (holder (roleAt s) (nameAt s) 1 (nameAt s i) n) (suc i) a) b
 
 -- what stands in the list made by f
 pub record Made (f : ℕ → ℕ) (i j a m : ℕ) : Type 0 where

@@ -9,14 +9,14 @@ use borrow.Author.Tests.{eqb-true, eqb-false, eq-eqb, ne-eqb}
 use lib.Dec.{eqb}
 use lib.ListN.{length}
 use Rattle.fields.proofs.Arith.{lt-or-le}
-use Rattle.group_mates.specs.Register.{placeAt, nameAt, fits, holder, mateOf, mateCons, pairsFrom, pairsOf}
+use Rattle.group_mates.specs.Register.{roleAt, nameAt, fits, holder, mateOf, mateCons, pairsFrom, pairsOf}
 use Rattle.group_mates.specs.Promise.{one, times, Once}
 use Rattle.group_names.specs.Same.{sameBytes}
 use Rattle.group_names.proofs.NameLaws.{and-true, cond-suc, same-true}
 
 pub record Holds (P : ℕ → ℕ) (N : ℕ → List ℕ) (q : ℕ) (x : List ℕ) (n k : ℕ) : Type 0 where
   pub below : k < n
-  pub place : P k ≡ q
+  pub role : P k ≡ q
   pub name : N k ≡ x
 
 pub holder-holds : (P : ℕ → ℕ) (N : ℕ → List ℕ) (q : ℕ) (x : List ℕ) (n k : ℕ) → holder P N q x n ≡ suc k → Holds P N q x n k
@@ -28,10 +28,10 @@ holder-holds P N q x (suc n) k e = go (holder-holds P N q x n k) (fits P N q x n
     go up true f g =
         let p = and-true (eqb (P n) q) (sameBytes (N n) x) f in
         let h : n ≡ k = omega arith in
-        record { below = omega arith; place = ap P (sym h) ∙ eqb-true (P n) q (p .0); name = ap N (sym h) ∙ same-true (N n) x (p .1) }
+        record { below = omega arith; role = ap P (sym h) ∙ eqb-true (P n) q (p .0); name = ap N (sym h) ∙ same-true (N n) x (p .1) }
     go up false f g =
         let r = up g in
-        record { below = omega (arith, r .below); place = r .place; name = r .name }
+        record { below = omega (arith, r .below); role = r .role; name = r .name }
 
 module _ (P : ℕ → ℕ) (N : ℕ → List ℕ) (n : ℕ) where
   pub record Mated (i k : ℕ) : Type 0 where
@@ -55,7 +55,7 @@ module _ (P : ℕ → ℕ) (N : ℕ → List ℕ) (n : ℕ) where
 
   pub mate-apart : (i k : ℕ) → mateOf P N n i ≡ suc k → mateOf P N n k ≡ 0
   unfolding mateOf
-  mate-apart i k e = let p = mated i k e in simp (ne-eqb (P k) 1 (λ z. omega (arith, p .mate .place)))
+  mate-apart i k e = let p = mated i k e in simp (ne-eqb (P k) 1 (λ z. omega (arith, p .mate .role)))
 
   pub mate-below : (i k : ℕ) → mateOf P N n i ≡ suc k → k < n
   mate-below i k e = mated i k e .mate .below
@@ -206,8 +206,8 @@ half n l h w = omega (arith, sum-times n l w, sum-le (times l) n h)
 -- the pairs of a group
 pub pairs-once : (s : List ℕ) (n : ℕ) → Once n (pairsOf s n)
 pairs-once s n = record {
-  once = once (mateOf (placeAt s) (nameAt s) n) (mate-inj (placeAt s) (nameAt s) n) (mate-apart (placeAt s) (nameAt s) n) n 0;
-  inside = λ k t. within (mateOf (placeAt s) (nameAt s) n) n (mate-below (placeAt s) (nameAt s) n) n 0 k (omega arith) t;
+  once = once (mateOf (roleAt s) (nameAt s) n) (mate-inj (roleAt s) (nameAt s) n) (mate-apart (roleAt s) (nameAt s) n) n 0;
+  inside = λ k t. within (mateOf (roleAt s) (nameAt s) n) n (mate-below (roleAt s) (nameAt s) n) n 0 k (omega arith) t;
 }
 
 pub pairs-half : (s : List ℕ) (n : ℕ) → 2 * length (pairsOf s n) ≤ n

@@ -4,13 +4,13 @@ use mathlib.Core.Bool.{Bool, true, false}
 use mathlib.Core.List.{List, [], _∷_}
 use mathlib.Core.Path.{_≡_}
 use lib.Dec.{eqb}
-use Rattle.group_mates.specs.Register.{placeAt, nameAt}
+use Rattle.group_mates.specs.Register.{roleAt, nameAt}
 
--- record i of n has the registration of place q: no later one has its place and name
+-- record i of n has the registration of role q: no later one has its role and name
 pub record Registered (s : List ℕ) (n q i : ℕ) : Type 0 where
   pub below : i < n
-  pub place : placeAt s i ≡ q
-  pub last : (k : ℕ) → i < k → k < n → placeAt s k ≡ q → nameAt s k ≡ nameAt s i → ⊥
+  pub role : roleAt s i ≡ q
+  pub last : (k : ℕ) → i < k → k < n → roleAt s k ≡ q → nameAt s k ≡ nameAt s i → ⊥
 
 -- records i and j are a pair: a registered first and a registered last of one name
 pub record Mates (s : List ℕ) (n i j : ℕ) : Type 0 where

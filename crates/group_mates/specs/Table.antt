@@ -8,11 +8,11 @@ use lib.ListN.{length, getD}
 use Rattle.fields.specs.Layout.{nameIn}
 use Rattle.group_frames.specs.Frame.{recordOf}
 use Rattle.group_names.specs.Digest.{digestOf}
-use Rattle.group_mates.specs.Register.{placeIn, matesOf}
+use Rattle.group_mates.specs.Register.{roleIn, matesOf}
 
--- records of one name and place have one key
+-- records of one name and role have one key
 unfoldable pub keyIn : List ℕ → ℕ
-keyIn r = digestOf (nameIn r) * 4 + placeIn r
+keyIn r = digestOf (nameIn r) * 4 + roleIn r
 
 pub record Keyed (s key : List ℕ) (n : ℕ) : Type 0 where
   pub wide : 256 ≤ length key

@@ -1,4 +1,4 @@
-// Who is paired with whom in a group: each record registers by its name and place, and a first's
+// Who is paired with whom in a group: each record registers by its name and role, and a first's
 // mate is found by a digest of the name.
 use fields::Flags;
 ghost use mathlib.Core.Path.{_≡_};
@@ -6,19 +6,19 @@ ghost use Prim.Native.Nat.{ℕ, _+_, _-_, _<_, _≤_};
 ghost use lib.ListN.{length, getD};
 ghost use Rattle.fields.specs.Layout.{layoutOf, nameIn};
 ghost use Rattle.fields.specs.Sound.{Sound};
-ghost use Rattle.group_frames.specs.Table.{Placed};
-ghost use Rattle.group_mates.specs.Register.{placeBy, placeIn, placeAt, nameAt, fits, holder, matesOf};
+ghost use Rattle.group_frames.specs.Table.{FrameTable};
+ghost use Rattle.group_mates.specs.Register.{roleBy, roleIn, roleAt, nameAt, fits, holder, matesOf};
 ghost use Rattle.group_mates.specs.Table.{keyIn, Keyed, chainOf, Chained, Mated};
 ghost use Rattle.group_names.specs.Same.{sameBytes};
 
-// The places that a record may register for; 0 is none.
+// The roles that a record may register for; 0 is none.
 const FIRST: u64 = 1;
 
 const LAST: u64 = 2;
 
-// The place that a record with these flags registers for.
-fn place_by(f: Flags) -> u64
-    ensures { λ q. ⌜ (q ≡ placeBy (f .0)) × (q < 3) ⌝ }
+// The role that a record with these flags registers for.
+fn role_by(f: Flags) -> u64
+    ensures { λ q. ⌜ (q ≡ roleBy (f .0)) × (q < 3) ⌝ }
 {
     if f.secondary() {
         return 0;
@@ -35,12 +35,12 @@ fn place_by(f: Flags) -> u64
     0
 }
 
-// The place that a record registers for.
-fn place_of(r: &[u8]) -> u64
+// The role that a record registers for.
+fn role_of(r: &[u8]) -> u64
     requires { ⌜ 32 ≤ length (now r) ⌝ }
-    ensures { λ q. ⌜ (q ≡ placeIn (now (r .entry))) × (q < 3) ⌝ }
+    ensures { λ q. ⌜ (q ≡ roleIn (now (r .entry))) × (q < 3) ⌝ }
 {
-    place_by(fields::flags_of(r))
+    role_by(fields::flags_of(r))
 }
 
 // The key of a sound record.
@@ -50,7 +50,7 @@ fn key_of(r: &[u8]) -> u64
 {
     let name = fields::name_of(r);
     let d = group_names::digest(name);
-    d * 4 + place_of(r)
+    d * 4 + role_of(r)
 }
 
 // Whether two sound records have one name.
@@ -63,7 +63,7 @@ fn same_name(x: &[u8], y: &[u8]) -> bool
 
 // Enters the key of each record.
 fn enter_keys(s: &[u8], begins: &[usize], n: usize, key: &mut [u64])
-    requires { ⌜ Placed (now s) (now begins) n × (256 ≤ length (now key)) ⌝ }
+    requires { ⌜ FrameTable (now s) (now begins) n × (256 ≤ length (now key)) ⌝ }
     ensures { λ _. ⌜ Keyed (now (s .entry)) (now (key .exit)) n ⌝ }
 {
     let mut k: usize = 0;
@@ -108,11 +108,11 @@ fn link(key: &[u64], n: usize, head: &mut [usize], next: &mut [usize])
     }
 }
 
-// Whether record j is of place q and of the name of record i. Names are compared only where the keys
+// Whether record j is of role q and of the name of record i. Names are compared only where the keys
 // are equal, and no name with itself.
 fn fits_at(s: &[u8], begins: &[usize], key: &[u64], n: usize, q: u64, i: usize, j: usize) -> bool
-    requires { ⌜ Placed (now s) (now begins) n × Keyed (now s) (now key) n × (i < n) × (j < n) × (q < 4) ⌝ }
-    ensures { λ r. ⌜ r ≡ fits (placeAt (now (s .entry))) (nameAt (now (s .entry))) q (nameAt (now (s .entry)) i) j ⌝ }
+    requires { ⌜ FrameTable (now s) (now begins) n × Keyed (now s) (now key) n × (i < n) × (j < n) × (q < 4) ⌝ }
+    ensures { λ r. ⌜ r ≡ fits (roleAt (now (s .entry))) (nameAt (now (s .entry))) q (nameAt (now (s .entry)) i) j ⌝ }
 {
     if key[j] != key[i] / 4 * 4 + q {
         return false;
@@ -124,7 +124,7 @@ fn fits_at(s: &[u8], begins: &[usize], key: &[u64], n: usize, q: u64, i: usize, 
     same_name(other, group_frames::record_at(s, begins, i))
 }
 
-// One more than the index of the record that has the registration of place q and the name of
+// One more than the index of the record that has the registration of role q and the name of
 // record i; 0 where none has.
 fn holder_of(
     s: &[u8],
@@ -136,8 +136,8 @@ fn holder_of(
     q: u64,
     i: usize,
 ) -> usize
-    requires { ⌜ Placed (now s) (now begins) n × Keyed (now s) (now key) n × Chained (now key) (now head) (now next) n × (i < n) × (q < 4) ⌝ }
-    ensures { λ r. ⌜ (r ≡ holder (placeAt (now (s .entry))) (nameAt (now (s .entry))) q (nameAt (now (s .entry)) i) n) × (r ≤ n) ⌝ }
+    requires { ⌜ FrameTable (now s) (now begins) n × Keyed (now s) (now key) n × Chained (now key) (now head) (now next) n × (i < n) × (q < 4) ⌝ }
+    ensures { λ r. ⌜ (r ≡ holder (roleAt (now (s .entry))) (nameAt (now (s .entry))) q (nameAt (now (s .entry)) i) n) × (r ≤ n) ⌝ }
 {
     let h = chain_of(key[i]);
     let mut c = head[h];
@@ -161,7 +161,7 @@ fn mate_of(
     n: usize,
     i: usize,
 ) -> usize
-    requires { ⌜ Placed (now s) (now begins) n × Keyed (now s) (now key) n × Chained (now key) (now head) (now next) n × (i < n) ⌝ }
+    requires { ⌜ FrameTable (now s) (now begins) n × Keyed (now s) (now key) n × Chained (now key) (now head) (now next) n × (i < n) ⌝ }
     ensures { λ r. ⌜ r ≡ matesOf (now (s .entry)) n i ⌝ }
 {
     if key[i] % 4 != FIRST {
@@ -183,7 +183,7 @@ fn enter_mates(
     n: usize,
     mate: &mut [usize],
 )
-    requires { ⌜ Placed (now s) (now begins) n × Keyed (now s) (now key) n × Chained (now key) (now head) (now next) n × (256 ≤ length (now mate)) ⌝ }
+    requires { ⌜ FrameTable (now s) (now begins) n × Keyed (now s) (now key) n × Chained (now key) (now head) (now next) n × (256 ≤ length (now mate)) ⌝ }
     ensures { λ _. ⌜ Mated (now (s .entry)) (now (mate .exit)) n ⌝ }
 {
     let mut i: usize = 0;
@@ -197,7 +197,7 @@ fn enter_mates(
 // each registered first's mate, and 0 for the others of the n. (No entry of a table is read before it is
 // written; zeros would be left to memset, which takes an instruction a byte.)
 pub fn find(s: &[u8], begins: &[usize], n: usize, mate: &mut [usize])
-    requires { ⌜ Placed (now s) (now begins) n × (256 ≤ length (now mate)) ⌝ }
+    requires { ⌜ FrameTable (now s) (now begins) n × (256 ≤ length (now mate)) ⌝ }
     ensures { λ _. ⌜ Mated (now (s .entry)) (now (mate .exit)) n ⌝ }
 {
     let mut key = [1u64; 256];

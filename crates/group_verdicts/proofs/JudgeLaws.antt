@@ -17,7 +17,7 @@ use Rattle.pair_judgement.specs.declared.Where.{Where}
 use Rattle.pair_judgement.specs.Judgement.{onSpan, spanIn}
 use Rattle.pair_judgement.specs.Where.{whereOf, onWhere}
 use Rattle.pair_judgement.proofs.JudgeLaws.{judged-as}
-use Rattle.group_mates.specs.Register.{placeAt, nameAt, matesOf, mateCons, pairsFrom}
+use Rattle.group_mates.specs.Register.{roleAt, nameAt, matesOf, mateCons, pairsFrom}
 use Rattle.group_mates.proofs.OnceLaws.{mate-below}
 use Rattle.group_verdicts.specs.declared.Verdict.{Verdict}
 use Rattle.group_verdicts.specs.declared.Verdict.the-variants.{Passed, Refused}
@@ -70,7 +70,7 @@ pairs-start f n = let z : n - 0 ≡ n = omega arith in ap (pairsFrom f 0) z
 pub mate-in : (s : List ℕ) (n i m : ℕ) → m ≡ matesOf s n i → (m ≡ 0 → ⊥) → m - 1 < n
 mate-in s n i m e h =
     let u : m ≡ suc (m - 1) = omega arith in
-    mate-below (placeAt s) (nameAt s) n i (m - 1) (sym e ∙ u)
+    mate-below (roleAt s) (nameAt s) n i (m - 1) (sym e ∙ u)
 
 -- ---- what is left to judge gives what all give
 abbrev pub Left : (ℕ → ℕ → Verdict) → (ℕ → ℕ) → ℕ → ℕ → Type 0

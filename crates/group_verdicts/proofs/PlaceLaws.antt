@@ -12,13 +12,13 @@ use Rattle.refusal.specs.declared.Refusal.the-variants.{RecordShort, RecordLong
 use Rattle.refusal.specs.declared.Row.{Row}
 use Rattle.refusal.specs.Table.{row, rowOf, numberOf, placeOf}
 use Rattle.fields.specs.declared.Layout.{Layout}
-use Rattle.fields.specs.declared.Placed.{Placed}
-use Rattle.fields.specs.declared.Placed.the-variants.{At, Unplaced}
+use Rattle.fields.specs.declared.Position.{Position}
+use Rattle.fields.specs.declared.Position.the-variants.{At, Unplaced}
 use Rattle.fields.specs.declared.Checked.{Checked}
 use Rattle.fields.specs.declared.Checked.the-variants.{Good, Bad}
 use Rattle.fields.specs.Flag.{hasBit, unmapped}
 use Rattle.fields.specs.Layout.{header, basesAt, tagsAt, layoutOf}
-use Rattle.fields.specs.Placed.{placedOf, sameId}
+use Rattle.fields.specs.Position.{positionOf, sameId}
 use Rattle.fields.specs.Check.{checkOf}
 use Rattle.strategy.specs.declared.Strategies.{Strategies}
 use Rattle.cigar.specs.declared.Walk.{Walk}
@@ -34,7 +34,7 @@ use Rattle.positions.specs.Step.{State}
 use Rattle.pair_merge.specs.Shared.{shared}
 use Rattle.pair_judgement.specs.declared.Judged.{Judged}
 use Rattle.pair_judgement.specs.declared.Judged.the-variants as Judge
-use Rattle.pair_judgement.specs.Judgement.{onUses, onSpan, onPlaced, spanIn, mappedOf, judgedOf}
+use Rattle.pair_judgement.specs.Judgement.{onUses, onSpan, onPosition, spanIn, mappedOf, judgedOf}
 use Rattle.pair.specs.declared.Answer.{Answer}
 use Rattle.pair.specs.declared.Answer.the-variants as Answers
 use Rattle.pair.specs.Pair.{Outcome, answerOf, onJudged, onGood, recordsOf, pairOf}
@@ -117,12 +117,12 @@ module _ (i j : ℕ) where
   -- steps 5 to 7
   mapped-judge : (y z : Layout) (a b : List ℕ) → Judges (mappedOf y z a b 1 2) (mappedOf y z a b i j)
   unfolding mappedOf
-  mapped-judge y z a b = go (sameId (header a .refId) (header b .refId)) (placedOf (header a .pos)) (placedOf (header b .pos))
+  mapped-judge y z a b = go (sameId (header a .refId) (header b .refId)) (positionOf (header a .pos)) (positionOf (header b .pos))
     where
-      by : Bool → Placed → Placed → ℕ → ℕ → Judged
-      by t u v m n = cond t (onPlaced u (λ p. onPlaced v (λ q. onSpan (spanIn y a p m) (λ s. onSpan (spanIn z b q n) (λ t. Judge.Both s t))))) Judge.Apart
+      by : Bool → Position → Position → ℕ → ℕ → Judged
+      by t u v m n = cond t (onPosition u (λ p. onPosition v (λ q. onSpan (spanIn y a p m) (λ s. onSpan (spanIn z b q n) (λ t. Judge.Both s t))))) Judge.Apart
 
-      go : (t : Bool) (u v : Placed) → Judges (by t u v 1 2) (by t u v i j)
+      go : (t : Bool) (u v : Position) → Judges (by t u v 1 2) (by t u v i j)
       go true (At p) (At q) = spans-judge _ _ _ _ (span-alike 1 i y a p) (span-alike 2 j z b q)
       go true (At p) Unplaced = placeless
       go true Unplaced v = placeless

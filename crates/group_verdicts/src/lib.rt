@@ -11,7 +11,7 @@ ghost use Prim.Native.Nat.{_<_};
 ghost use lib.ListN.{length};
 ghost use Rattle.fields.specs.Sound.{Sound};
 ghost use Rattle.pair_judgement.specs.Judgement.{onSpan, spanIn};
-ghost use Rattle.group_frames.specs.Table.{Placed};
+ghost use Rattle.group_frames.specs.Table.{FrameTable};
 ghost use Rattle.group_mates.specs.Register.{pairsOf};
 ghost use Rattle.group_mates.specs.Table.{Mated};
 ghost use Rattle.group_verdicts.specs.Indexed.{ofChecked, ofJudged, indexedOf, indexedAt};
@@ -75,7 +75,7 @@ fn judge_pair(first: &[u8], second: &[u8], i: u16, j: u16) -> Verdict
     let Checked::Good(z) = checked2 else {
         return unchecked(checked2);
     };
-    let at = pair_judgement::place(first, second);
+    let at = pair_judgement::locate(first, second);
     let Where::On(p, q) = at else {
         return Verdict::Passed;
     };
@@ -94,7 +94,7 @@ fn judge_pair(first: &[u8], second: &[u8], i: u16, j: u16) -> Verdict
 
 // Records i and j of a group judged as a pair.
 fn judge_at(s: &[u8], begins: &[usize], n: usize, i: usize, j: usize) -> Verdict
-    requires { ⌜ Placed (now s) (now begins) n × (i < n) × (j < n) ⌝ }
+    requires { ⌜ FrameTable (now s) (now begins) n × (i < n) × (j < n) ⌝ }
     ensures { λ r. ⌜ r ≡ indexedAt (now (s .entry)) i j ⌝ }
 {
     let first = group_frames::record_at(s, begins, i);
@@ -104,7 +104,7 @@ fn judge_at(s: &[u8], begins: &[usize], n: usize, i: usize, j: usize) -> Verdict
 
 // Every pair judged, in order of the first's index.
 pub fn judge_all(s: &[u8], begins: &[usize], n: usize, mate: &[usize]) -> Verdict
-    requires { ⌜ Placed (now s) (now begins) n × Mated (now s) (now mate) n ⌝ }
+    requires { ⌜ FrameTable (now s) (now begins) n × Mated (now s) (now mate) n ⌝ }
     ensures { λ r. ⌜ r ≡ judgeBy (indexedAt (now (s .entry))) (pairsOf (now (s .entry)) n) ⌝ }
 {
     let mut i: usize = 0;

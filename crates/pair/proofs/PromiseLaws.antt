@@ -11,15 +11,15 @@ use Rattle.refusal.specs.declared.Refusal.the-variants.{Count}
 use Rattle.fields.specs.declared.Layout.{Layout}
 use Rattle.fields.specs.declared.RefPos.{RefPos}
 use Rattle.fields.specs.declared.ReadOffset.{ReadOffset}
-use Rattle.fields.specs.declared.Placed.the-variants.{At}
+use Rattle.fields.specs.declared.Position.the-variants.{At}
 use Rattle.fields.specs.declared.Checked.{Checked}
 use Rattle.fields.specs.declared.Checked.the-variants.{Good, Bad}
 use Rattle.fields.specs.Layout.{header, layoutOf}
-use Rattle.fields.specs.Placed.{placedOf}
+use Rattle.fields.specs.Position.{positionOf}
 use Rattle.fields.specs.Check.{checkOf}
 use Rattle.fields.specs.Sound.{Sound}
 use Rattle.fields.proofs.CheckLaws.{good-sound}
-use Rattle.fields.proofs.PlacedLaws.{same-id-equal, equal-same-id}
+use Rattle.fields.proofs.PositionLaws.{same-id-equal, equal-same-id}
 use Rattle.stats.specs.Counts.{full}
 use Rattle.strategy.specs.declared.Strategies.{Strategies}
 use Rattle.cigar.specs.declared.Extent.{Extent}
@@ -127,8 +127,8 @@ passed w s o e n = on-full (full (s .stats)) e
     on-full false h = on-records (checkOf (s .first) 1) refl h
 
 -- ---- aligned records are refused by their operations or placed, and never apart
-placed-at : (z : ℤ) (n : ℕ) → z ≡ pos n → placedOf z ≡ At n
-placed-at z n e = ap placedOf e
+placed-at : (z : ℤ) (n : ℕ) → z ≡ pos n → positionOf z ≡ At n
+placed-at z n e = ap positionOf e
 
 aligned-judged : (y z : Layout) (a b : List ℕ) (i j : ℕ) (al : Aligned a b)
     → onSpan (spanIn y a (al .pos₁) i) (λ s. onSpan (spanIn z b (al .pos₂) j) (λ t. Judge.Both s t)) ≡ judgedOf y z a b i j
@@ -200,7 +200,7 @@ module _ (w : Strategies) (s : State) where
       let m = passed w s (outcome Answers.Overlap u) e (λ r f. let x : _≡_ {A = ℕ} 0 1 = cc in omega arith) in
       go (judgedOf y z (s .first) (s .second) 1 2) refl (m .judged)
     where
-      is-pos : (v : ℤ) (n : ℕ) → placedOf v ≡ At n → v ≡ pos n
+      is-pos : (v : ℤ) (n : ℕ) → positionOf v ≡ At n → v ≡ pos n
       is-pos (pos m) n f = ap pos (cc)
       is-pos (negsuc m) n f = let x : _≡_ {A = ℕ} 0 1 = cc in absurd (omega arith)
 

@@ -5,11 +5,11 @@ use mathlib.Core.List.{List}
 use mathlib.Core.Bool.{Bool, true, false, cond, _||_}
 use Rattle.fields.specs.declared.Layout.{Layout}
 use Rattle.cigar.specs.declared.Extent.{Extent}
-use Rattle.fields.specs.declared.Placed.{Placed}
-use Rattle.fields.specs.declared.Placed.the-variants.{At, Unplaced}
+use Rattle.fields.specs.declared.Position.{Position}
+use Rattle.fields.specs.declared.Position.the-variants.{At, Unplaced}
 use Rattle.fields.specs.Flag.{hasBit, unmapped}
 use Rattle.fields.specs.Layout.{header}
-use Rattle.fields.specs.Placed.{placedOf, sameId}
+use Rattle.fields.specs.Position.{positionOf, sameId}
 use Rattle.refusal.specs.declared.Refusal.{Refusal}
 use Rattle.cigar.specs.declared.Operations.{Operations}
 use Rattle.cigar.specs.declared.Operations.the-variants as Ops
@@ -20,7 +20,7 @@ use Rattle.pair_judgement.specs.declared.Judged.{Judged}
 use Rattle.pair_judgement.specs.declared.Judged.the-variants as Judge
 use Rattle.pair_judgement.specs.declared.Where.{Where}
 use Rattle.pair_judgement.specs.declared.Where.the-variants.{Apart, On}
-use Rattle.pair_judgement.specs.Judgement.{onUses, onSpan, onPlaced, spanIn, mappedOf, judgedOf}
+use Rattle.pair_judgement.specs.Judgement.{onUses, onSpan, onPosition, spanIn, mappedOf, judgedOf}
 use Rattle.pair_judgement.specs.Where.{bothAt, whereOf, onWhere}
 
 -- a refusal is handed on, whatever would have followed
@@ -52,16 +52,16 @@ module _ (a b : List ℕ) where
       ids-differ e = rw (mapped₁, mapped₂, e)
 
       module _ (same : sameId (header a .refId) (header b .refId) ≡ true) where
-        pub first-unplaced : placedOf (header a .pos) ≡ Unplaced → Apart ≡ whereOf a b
+        pub first-unplaced : positionOf (header a .pos) ≡ Unplaced → Apart ≡ whereOf a b
         unfolding whereOf
         first-unplaced e = rw (mapped₁, mapped₂, same, e)
 
-        module _ (p : ℕ) (at₁ : placedOf (header a .pos) ≡ At p) where
-          pub second-unplaced : placedOf (header b .pos) ≡ Unplaced → Apart ≡ whereOf a b
+        module _ (p : ℕ) (at₁ : positionOf (header a .pos) ≡ At p) where
+          pub second-unplaced : positionOf (header b .pos) ≡ Unplaced → Apart ≡ whereOf a b
           unfolding whereOf
           second-unplaced e = rw (mapped₁, mapped₂, same, at₁, e)
 
-          pub both-placed : (q : ℕ) → placedOf (header b .pos) ≡ At q → On p q ≡ whereOf a b
+          pub both-placed : (q : ℕ) → positionOf (header b .pos) ≡ At q → On p q ≡ whereOf a b
           unfolding whereOf
           both-placed q e = rw (mapped₁, mapped₂, same, at₁, e)
 
@@ -69,11 +69,11 @@ module _ (a b : List ℕ) where
 module _ (y z : Layout) (a b : List ℕ) (i j : ℕ) where
   pub where-judged : onWhere (whereOf a b) (λ p q. onSpan (spanIn y a p i) (λ s. onSpan (spanIn z b q j) (λ t. Judge.Both s t))) ≡ judgedOf y z a b i j
   unfolding whereOf judgedOf mappedOf
-  where-judged = go (hasBit (header a .flags) unmapped || hasBit (header b .flags) unmapped) (sameId (header a .refId) (header b .refId)) (placedOf (header a .pos)) (placedOf (header b .pos))
+  where-judged = go (hasBit (header a .flags) unmapped || hasBit (header b .flags) unmapped) (sameId (header a .refId) (header b .refId)) (positionOf (header a .pos)) (positionOf (header b .pos))
     where
-      go : (t u : Bool) (k l : Placed)
+      go : (t u : Bool) (k l : Position)
           → onWhere (cond t Apart (cond u (bothAt k l) Apart)) (λ p q. onSpan (spanIn y a p i) (λ s. onSpan (spanIn z b q j) (λ t. Judge.Both s t)))
-          ≡ cond t Judge.Apart (cond u (onPlaced k (λ p. onPlaced l (λ q. onSpan (spanIn y a p i) (λ s. onSpan (spanIn z b q j) (λ t. Judge.Both s t))))) Judge.Apart)
+          ≡ cond t Judge.Apart (cond u (onPosition k (λ p. onPosition l (λ q. onSpan (spanIn y a p i) (λ s. onSpan (spanIn z b q j) (λ t. Judge.Both s t))))) Judge.Apart)
       go true u k l = refl
       go false true (At p) (At q) = refl
       go false true (At p) Unplaced = refl

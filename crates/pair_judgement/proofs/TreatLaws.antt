@@ -11,11 +11,11 @@ use borrow.Author.Tests.{le-ltb}
 use Rattle.refusal.specs.declared.Refusal.{Refusal}
 use Rattle.fields.specs.declared.Layout.{Layout}
 use Rattle.fields.specs.declared.RefPos.{RefPos}
-use Rattle.fields.specs.declared.Placed.{Placed}
-use Rattle.fields.specs.declared.Placed.the-variants.{At, Unplaced}
+use Rattle.fields.specs.declared.Position.{Position}
+use Rattle.fields.specs.declared.Position.the-variants.{At, Unplaced}
 use Rattle.fields.specs.Flag.{hasBit, unmapped}
 use Rattle.fields.specs.Layout.{header}
-use Rattle.fields.specs.Placed.{placedOf, sameId}
+use Rattle.fields.specs.Position.{positionOf, sameId}
 use Rattle.fields.specs.Sound.{Lies, Sound}
 use Rattle.cigar.specs.declared.Operations.{Operations}
 use Rattle.cigar.specs.declared.Operations.the-variants as Ops
@@ -35,7 +35,7 @@ use Rattle.pair_merge.specs.Shared.{baseIn, shared, merged, Walked}
 use Rattle.pair_merge.proofs.PairLaws.{none-left, none-in}
 use Rattle.pair_judgement.specs.declared.Judged.{Judged}
 use Rattle.pair_judgement.specs.declared.Judged.the-variants as Judge
-use Rattle.pair_judgement.specs.Judgement.{onUses, onSpan, onPlaced, spanIn, mappedOf, judgedOf}
+use Rattle.pair_judgement.specs.Judgement.{onUses, onSpan, onPosition, spanIn, mappedOf, judgedOf}
 use Rattle.pair_judgement.specs.Ready.{Ready, TreatedTo}
 
 -- ---- each step was passed
@@ -47,7 +47,7 @@ on-span : (x : Span) (f : Extent → Judged) (p q : Extent) → onSpan x f ≡ J
 on-span (Spans.Covers s) f p q e = (s, (refl, e))
 on-span (Spans.Refused r) f p q e = let z : _≡_ {A = ℕ} 0 1 = cc in absurd (omega arith)
 
-on-placed : (x : Placed) (f : ℕ → Judged) (p q : Extent) → onPlaced x f ≡ Judge.Both p q → (n : ℕ) × ((x ≡ At n) × (f n ≡ Judge.Both p q))
+on-placed : (x : Position) (f : ℕ → Judged) (p q : Extent) → onPosition x f ≡ Judge.Both p q → (n : ℕ) × ((x ≡ At n) × (f n ≡ Judge.Both p q))
 on-placed (At n) f p q e = (n, (refl, e))
 on-placed Unplaced f p q e = let z : _≡_ {A = ℕ} 0 1 = cc in absurd (omega arith)
 
@@ -86,8 +86,8 @@ pub record Known (y z : Layout) (a b : List ℕ) (p q : Extent) : Type 0 where
   pub reference : sameId (header a .refId) (header b .refId) ≡ true
   pub pos₁ : ℕ
   pub pos₂ : ℕ
-  pub placed₁ : placedOf (header a .pos) ≡ At pos₁
-  pub placed₂ : placedOf (header b .pos) ≡ At pos₂
+  pub placed₁ : positionOf (header a .pos) ≡ At pos₁
+  pub placed₂ : positionOf (header b .pos) ≡ At pos₂
   pub span₁ : Spanned y a pos₁ p
   pub span₂ : Spanned z b pos₂ q
 
@@ -96,8 +96,8 @@ unfolding judgedOf mappedOf
 both-known y z a b i j p q e =
     let m = on-neither (hasBit (header a .flags) unmapped) (hasBit (header b .flags) unmapped) _ p q e in
     let r = on-true (sameId (header a .refId) (header b .refId)) _ p q (m .2) in
-    let n₁ = on-placed (placedOf (header a .pos)) _ p q (r .1) in
-    let n₂ = on-placed (placedOf (header b .pos)) _ p q (n₁ .1 .1) in
+    let n₁ = on-placed (positionOf (header a .pos)) _ p q (r .1) in
+    let n₂ = on-placed (positionOf (header b .pos)) _ p q (n₁ .1 .1) in
     let s₁ = on-span (spanIn y a (n₁ .0) i) _ p q (n₂ .1 .1) in
     let s₂ = on-span (spanIn z b (n₂ .0) j) _ p q (s₁ .1 .1) in
     let e₁ : s₁ .0 ≡ p = cc (s₂ .1 .1) in

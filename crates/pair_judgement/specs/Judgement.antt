@@ -3,11 +3,11 @@ use Prim.Native.Nat.{ℕ}
 use mathlib.Core.List.{List}
 use mathlib.Core.Bool.{cond, _||_}
 use Rattle.fields.specs.declared.Layout.{Layout}
-use Rattle.fields.specs.declared.Placed.{Placed}
-use Rattle.fields.specs.declared.Placed.the-variants.{At, Unplaced}
+use Rattle.fields.specs.declared.Position.{Position}
+use Rattle.fields.specs.declared.Position.the-variants.{At, Unplaced}
 use Rattle.fields.specs.Flag.{hasBit, unmapped}
 use Rattle.fields.specs.Layout.{header}
-use Rattle.fields.specs.Placed.{placedOf, sameId}
+use Rattle.fields.specs.Position.{positionOf, sameId}
 use Rattle.cigar.specs.declared.Operations.{Operations}
 use Rattle.cigar.specs.declared.Operations.the-variants as Ops
 use Rattle.cigar.specs.declared.Extent.{Extent}
@@ -26,9 +26,9 @@ abbrev pub onSpan : Span → (Extent → Judged) → Judged
 onSpan (Spans.Covers e) rest = rest e
 onSpan (Spans.Refused r) rest = Judge.Refused r
 
-abbrev pub onPlaced : Placed → (ℕ → Judged) → Judged
-onPlaced (At pos) rest = rest pos
-onPlaced Unplaced rest = Judge.Apart
+abbrev pub onPosition : Position → (ℕ → Judged) → Judged
+onPosition (At pos) rest = rest pos
+onPosition Unplaced rest = Judge.Apart
 
 -- step 7 of one record: its operations, its read total, its end
 unfoldable pub spanIn : Layout → List ℕ → ℕ → ℕ → Span
@@ -38,7 +38,7 @@ spanIn y s pos place = onUses (operationsOf y s place) (λ n. spanOf pos n place
 unfoldable pub mappedOf : Layout → Layout → List ℕ → List ℕ → ℕ → ℕ → Judged
 mappedOf y z a b i j =
     cond (sameId (header a .refId) (header b .refId))
-    (onPlaced (placedOf (header a .pos)) (λ p. onPlaced (placedOf (header b .pos)) (λ q.
+    (onPosition (positionOf (header a .pos)) (λ p. onPosition (positionOf (header b .pos)) (λ q.
     onSpan (spanIn y a p i) (λ s. onSpan (spanIn z b q j) (λ t. Judge.Both s t)))))
     Judge.Apart
 

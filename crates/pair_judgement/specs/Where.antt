@@ -2,18 +2,18 @@
 use Prim.Native.Nat.{ℕ}
 use mathlib.Core.List.{List}
 use mathlib.Core.Bool.{cond, _||_}
-use Rattle.fields.specs.declared.Placed.{Placed}
-use Rattle.fields.specs.declared.Placed.the-variants as Places
+use Rattle.fields.specs.declared.Position.{Position}
+use Rattle.fields.specs.declared.Position.the-variants as Places
 use Rattle.fields.specs.Flag.{hasBit, unmapped}
 use Rattle.fields.specs.Layout.{header}
-use Rattle.fields.specs.Placed.{placedOf, sameId}
+use Rattle.fields.specs.Position.{positionOf, sameId}
 use Rattle.pair_judgement.specs.declared.Judged.{Judged}
 use Rattle.pair_judgement.specs.declared.Judged.the-variants as Judge
 use Rattle.pair_judgement.specs.declared.Where.{Where}
 use Rattle.pair_judgement.specs.declared.Where.the-variants.{Apart, On}
 
 -- both have a position
-abbrev pub bothAt : Placed → Placed → Where
+abbrev pub bothAt : Position → Position → Where
 bothAt (Places.At p) (Places.At q) = On p q
 bothAt (Places.At p) Places.Unplaced = Apart
 bothAt Places.Unplaced y = Apart
@@ -22,7 +22,7 @@ bothAt Places.Unplaced y = Apart
 unfoldable pub whereOf : List ℕ → List ℕ → Where
 whereOf a b =
     cond (hasBit (header a .flags) unmapped || hasBit (header b .flags) unmapped) Apart
-    (cond (sameId (header a .refId) (header b .refId)) (bothAt (placedOf (header a .pos)) (placedOf (header b .pos))) Apart)
+    (cond (sameId (header a .refId) (header b .refId)) (bothAt (positionOf (header a .pos)) (positionOf (header b .pos))) Apart)
 
 -- what goes on where both lie on one reference
 abbrev pub onWhere : Where → (ℕ → ℕ → Judged) → Judged

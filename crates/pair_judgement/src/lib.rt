@@ -4,7 +4,7 @@ use cigar::Extent;
 use cigar::Operations;
 use cigar::Span;
 use fields::Layout;
-use fields::Placed;
+use fields::Position;
 use fields::RefPos;
 use pair_merge::Met;
 use positions::Job;
@@ -36,7 +36,7 @@ pub enum Where {
 }
 
 // Steps 4 to 6 of the order of judgement, from the headers alone.
-pub fn place(first: &[u8], second: &[u8]) -> Where
+pub fn locate(first: &[u8], second: &[u8]) -> Where
     requires { ⌜ (32 ≤ length (now first)) × (32 ≤ length (now second)) ⌝ }
     ensures { λ r. ⌜ r ≡ whereOf (now (first .entry)) (now (second .entry)) ⌝ }
 {
@@ -53,11 +53,11 @@ pub fn place(first: &[u8], second: &[u8]) -> Where
         return Where::Apart;
     }
     let at1 = fields::start_of(first);
-    let Placed::At(pos1) = at1 else {
+    let Position::At(pos1) = at1 else {
         return Where::Apart;
     };
     let at2 = fields::start_of(second);
-    let Placed::At(pos2) = at2 else {
+    let Position::At(pos2) = at2 else {
         return Where::Apart;
     };
     Where::On(pos1, pos2)
@@ -103,7 +103,7 @@ pub fn judge(first: &[u8], second: &[u8], y: Layout, z: Layout, place1: u16, pla
     requires { ⌜ Sound (now first) y × Sound (now second) z ⌝ }
     ensures { λ r. ⌜ r ≡ judgedOf y z (now (first .entry)) (now (second .entry)) place1 place2 ⌝ }
 {
-    let at = place(first, second);
+    let at = locate(first, second);
     let Where::On(pos1, pos2) = at else {
         return Judged::Apart;
     };

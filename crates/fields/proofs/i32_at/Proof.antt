@@ -4,7 +4,7 @@ use native.Mathlib.Omega.{arith}
 use borrow.Author.Needs.{needs}
 use borrow.Author.Tests.{lt-ltb}
 use Rattle.fields.specs.Number.{signed32}
-use Rattle.fields.proofs.PlacedLaws.{below-fits, below-is}
+use Rattle.fields.proofs.PositionLaws.{below-fits, below-is}
 use Rattle.fields.proofs.i32_at.Statement.{statement}
 use Rattle.fields.proofs.i32_at.Tie as tie
 

@@ -1,5 +1,5 @@
 -- `fields::same_id` meets its contract: signed numbers are equal where their bits are. Assumes nothing.
-use Rattle.fields.proofs.PlacedLaws.{same-bits}
+use Rattle.fields.proofs.PositionLaws.{same-bits}
 use Rattle.fields.proofs.same_id.Statement.{statement}
 use Rattle.fields.proofs.same_id.Tie as tie
 

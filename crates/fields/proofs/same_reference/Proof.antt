@@ -2,7 +2,7 @@ use mir.Syntax.{w32}
 use mir.Val.{SFits}
 use mir.Facts.{toZ-ofZ}
 use mathlib.Core.Path.{ap, _∙_}
-use Rattle.fields.specs.Placed.{placedOf, sameId}
+use Rattle.fields.specs.Position.{positionOf, sameId}
 use borrow.Author.Needs.{needs}
 use Rattle.fields.proofs.same_reference.Statement.{statement}
 use Rattle.fields.proofs.same_reference.Tie as tie

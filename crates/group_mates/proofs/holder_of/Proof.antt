@@ -3,7 +3,7 @@
 use mathlib.Core.Path.{_≡_, ap, _∙_}
 use Prim.Native.Nat.{ℕ, _-_}
 use lib.ListN.{getD}
-use Rattle.group_mates.specs.Register.{placeAt, nameAt, holder}
+use Rattle.group_mates.specs.Register.{roleAt, nameAt, holder}
 use Rattle.group_mates.specs.Table.{chainOf}
 use Rattle.group_mates.proofs.KeyLaws.{holder-yes}
 use Rattle.group_mates.proofs.ChainLaws.{Walking, last-le, walking-start, walking-next}
@@ -62,7 +62,7 @@ returns c =
     let args = entry .args in
     let loop = turn .loop in
     let s = now (args .s) in (
-      holder-yes (placeAt s) (nameAt s) (args .q) (nameAt s (args .i)) (loop .c) (omega arith) (c .before .fits-at .result)
+      holder-yes (roleAt s) (nameAt s) (args .q) (nameAt s (args .i)) (loop .c) (omega arith) (c .before .fits-at .result)
           (c .before .fits-at .ensures) (c .if1 .taken) ∙ loop .inv .left,
       loop .inv .low,
     )

@@ -16,17 +16,17 @@ digest-requires c κs = search needs
 mul-result : tie.Need-mul-result
 mul-result c = search needs
 
-place-of-requires : tie.Need-place-of-requires
-place-of-requires c κs = search needs
+role-of-requires : tie.Need-role-of-requires
+role-of-requires c κs = search needs
 
 add-result : tie.Need-add-result
 add-result c = search needs
 
 returns : tie.Need-returns
 unfolding keyIn
-returns c = ap₂ (λ (x y : ℕ). x * 4 + y) (c .before .digest .ensures .0 ∙ ap digestOf (c .before .before .name-of .ensures)) (c .place-of .ensures .0)
+returns c = ap₂ (λ (x y : ℕ). x * 4 + y) (c .before .digest .ensures .0 ∙ ap digestOf (c .before .before .name-of .ensures)) (c .role-of .ensures .0)
 
 pub key-of-spec : {M : Type 1} → statement M
 key-of-spec =
     tie.close
-    (tie.spec name-of-requires digest-requires mul-result place-of-requires add-result returns)
+    (tie.spec name-of-requires digest-requires mul-result role-of-requires add-result returns)

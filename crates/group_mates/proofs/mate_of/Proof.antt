@@ -2,8 +2,8 @@
 use mathlib.Core.Path.{sym, _∙_}
 use Prim.Native.Nat.{_-_}
 use Rattle.group_frames.specs.Frame.{recordOf}
-use Rattle.group_mates.specs.Register.{placeAt, nameAt}
-use Rattle.group_mates.proofs.KeyLaws.{key-place, mate-none, mate-superseded, mate-held}
+use Rattle.group_mates.specs.Register.{roleAt, nameAt}
+use Rattle.group_mates.proofs.KeyLaws.{key-role, mate-none, mate-superseded, mate-held}
 use denote.Ref.{now}
 use borrow.Author.Needs.{needs}
 use Rattle.group_mates.proofs.mate_of.Statement.{statement}
@@ -20,8 +20,8 @@ returns c =
     let entry = c .before .before .before .before .before .before .before in
     let args = entry .args in
     let s = now (args .s) in
-    mate-none (placeAt s) (nameAt s) (args .n) (args .i)
-    (λ z. c .if1 .taken ((key-place (recordOf s (args .i)) _ (entry .pre .1 .keys (args .i) (entry .pre .3))) ∙ z))
+    mate-none (roleAt s) (nameAt s) (args .n) (args .i)
+    (λ z. c .if1 .taken ((key-role (recordOf s (args .i)) _ (entry .pre .1 .keys (args .i) (entry .pre .3))) ∙ z))
 
 holder-of-requires : tie.Need-holder-of-requires
 holder-of-requires c κs = search needs
@@ -35,8 +35,8 @@ returns-2 c =
     let entry = by-if1 .before .before .before .before .before .before .before in
     let args = entry .args in
     let s = now (args .s) in
-    mate-superseded (placeAt s) (nameAt s) (args .n) (args .i) (c .before .holder-of .result)
-    (sym (key-place (recordOf s (args .i)) _ (entry .pre .1 .keys (args .i) (entry .pre .3))) ∙ by-if1 .if1 .left)
+    mate-superseded (roleAt s) (nameAt s) (args .n) (args .i) (c .before .holder-of .result)
+    (sym (key-role (recordOf s (args .i)) _ (entry .pre .1 .keys (args .i) (entry .pre .3))) ∙ by-if1 .if1 .left)
     (c .before .holder-of .ensures .0) (c .if2 .taken)
 
 holder-of-requires-2 : tie.Need-holder-of-requires-2
@@ -49,8 +49,8 @@ returns-3 c =
     let entry = by-if1 .before .before .before .before .before .before .before in
     let args = entry .args in
     let s = now (args .s) in
-    mate-held (placeAt s) (nameAt s) (args .n) (args .i) (by-holder-of .holder-of .result) (c .holder-of2 .result)
-    (sym (key-place (recordOf s (args .i)) _ (entry .pre .1 .keys (args .i) (entry .pre .3))) ∙ by-if1 .if1 .left)
+    mate-held (roleAt s) (nameAt s) (args .n) (args .i) (by-holder-of .holder-of .result) (c .holder-of2 .result)
+    (sym (key-role (recordOf s (args .i)) _ (entry .pre .1 .keys (args .i) (entry .pre .3))) ∙ by-if1 .if1 .left)
     (by-holder-of .holder-of .ensures .0) (c .before .if2 .left) (c .holder-of2 .ensures .0)
 
 pub mate-of-spec : {M : Type 1} → statement M

@@ -50,8 +50,8 @@ returns-2 c =
     (sym (by-check-record .check-record .ensures) ∙ by-checked1 .checked1 .given .1) (by-check-record2 .check-record2 .result) _
     (by-check-record2 .check-record2 .ensures) (c .before .enum-told2 .given .1)
 
-place-requires : tie.Need-place-requires
-place-requires c κs =
+locate-requires : tie.Need-locate-requires
+locate-requires c κs =
     let by-check-record2 = c .before .before .before in
     let by-checked1 = by-check-record2 .before .before in
     let by-check-record = by-checked1 .before .before in
@@ -71,8 +71,8 @@ enum-told-3 c = search needs
 
 returns-3 : tie.Need-returns-3
 returns-3 c =
-    let by-place = c .before .before in
-    let by-checked2 = by-place .before .before in
+    let by-locate = c .before .before in
+    let by-checked2 = by-locate .before .before in
     let by-check-record2 = by-checked2 .before .before in
     let by-checked1 = by-check-record2 .before .before in
     let by-check-record = by-checked1 .before .before in
@@ -80,8 +80,8 @@ returns-3 c =
     let args = entry .args in
     both-placed (now (args .first)) (now (args .second)) (args .i) (args .j) (by-checked1 .checked1 .given .0 .0)
     (sym (by-check-record .check-record .ensures) ∙ by-checked1 .checked1 .given .1) (by-checked2 .checked2 .given .0 .0)
-    (by-place .place .result) _ (sym (by-check-record2 .check-record2 .ensures) ∙ by-checked2 .checked2 .given .1)
-    (by-place .place .ensures) (c .enum-told3 .given .1)
+    (by-locate .locate .result) _ (sym (by-check-record2 .check-record2 .ensures) ∙ by-checked2 .checked2 .given .1)
+    (by-locate .locate .ensures) (c .enum-told3 .given .1)
 
 spans-of-requires : tie.Need-spans-of-requires
 spans-of-requires c κs =
@@ -100,8 +100,8 @@ spans-of-requires c κs =
 returns-4 : tie.Need-returns-4
 returns-4 c =
     let by-at = c .before .before in
-    let by-place = by-at .before .before in
-    let by-checked2 = by-place .before .before in
+    let by-locate = by-at .before .before in
+    let by-checked2 = by-locate .before .before in
     let by-check-record2 = by-checked2 .before .before in
     let by-checked1 = by-check-record2 .before .before in
     let by-check-record = by-checked1 .before .before in
@@ -109,8 +109,8 @@ returns-4 c =
     let args = entry .args in
     c .spans-of .ensures ∙ both-placed (now (args .first)) (now (args .second)) (args .i) (args .j) (by-checked1 .checked1 .given .0 .0)
     (sym (by-check-record .check-record .ensures) ∙ by-checked1 .checked1 .given .1) (by-checked2 .checked2 .given .0 .0)
-    (by-place .place .result) _ (sym (by-check-record2 .check-record2 .ensures) ∙ by-checked2 .checked2 .given .1)
-    (by-place .place .ensures) (by-at .at .given .1)
+    (by-locate .locate .result) _ (sym (by-check-record2 .check-record2 .ensures) ∙ by-checked2 .checked2 .given .1)
+    (by-locate .locate .ensures) (by-at .at .given .1)
 
 pub judge-pair-spec : {M : Type 1} → statement M
 judge-pair-spec =
@@ -126,7 +126,7 @@ judge-pair-spec =
     enum-told-2
     unchecked-requires-2
     returns-2
-    place-requires
+    locate-requires
     enum-known-at
     enum-told-3
     returns-3

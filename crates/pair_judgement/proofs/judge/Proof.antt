@@ -6,8 +6,8 @@ use borrow.Author.Needs.{needs}
 use Rattle.pair_judgement.proofs.judge.Statement.{statement}
 use Rattle.pair_judgement.proofs.judge.Tie as tie
 
-place-requires : tie.Need-place-requires
-place-requires c κs = search needs
+locate-requires : tie.Need-locate-requires
+locate-requires c κs = search needs
 
 enum-known-at : tie.Need-enum-known-at
 enum-known-at c = search needs
@@ -17,11 +17,11 @@ enum-told c = search needs
 
 returns : tie.Need-returns
 returns c =
-    let by-place = c .before .before in
-    let entry = by-place .before .before .before in
+    let by-locate = c .before .before in
+    let entry = by-locate .before .before .before in
     let args = entry .args in
-    judged-as (args .y) (args .z) (now (args .first)) (now (args .second)) (args .place1) (args .place2) (by-place .place .result)
-    (by-place .place .ensures) _ (c .enum-told .given .1)
+    judged-as (args .y) (args .z) (now (args .first)) (now (args .second)) (args .place1) (args .place2) (by-locate .locate .result)
+    (by-locate .locate .ensures) _ (c .enum-told .given .1)
 
 span-of-requires : tie.Need-span-of-requires
 span-of-requires c κs = search needs
@@ -39,11 +39,11 @@ returns-2 : tie.Need-returns-2
 returns-2 c =
     let by-span-of = c .before .before .before in
     let by-at = by-span-of .before .before in
-    let by-place = by-at .before .before in
-    let entry = by-place .before .before .before in
+    let by-locate = by-at .before .before in
+    let entry = by-locate .before .before .before in
     let args = entry .args in
     c .unplaced .ensures ∙ first-span (args .y) (args .z) (now (args .first)) (now (args .second)) (args .place1) (args .place2)
-    (by-place .place .result) (by-place .place .ensures) (by-at .at .given .0 .0) (by-at .at .given .0 .1 .0) (by-at .at .given .1)
+    (by-locate .locate .result) (by-locate .locate .ensures) (by-at .at .given .0 .0) (by-at .at .given .0 .1 .0) (by-at .at .given .1)
     (by-span-of .span-of .result) _ (by-span-of .span-of .ensures) (c .before .enum-told2 .given .1)
 
 span-of-requires-2 : tie.Need-span-of-requires-2
@@ -64,11 +64,11 @@ returns-3 c =
     let by-span1 = by-span-of2 .before .before in
     let by-span-of = by-span1 .before .before in
     let by-at = by-span-of .before .before in
-    let by-place = by-at .before .before in
-    let entry = by-place .before .before .before in
+    let by-locate = by-at .before .before in
+    let entry = by-locate .before .before .before in
     let args = entry .args in
     c .unplaced2 .ensures ∙ second-span (args .y) (args .z) (now (args .first)) (now (args .second)) (args .place1) (args .place2)
-    (by-place .place .result) (by-place .place .ensures) (by-at .at .given .0 .0) (by-at .at .given .0 .1 .0) (by-at .at .given .1) _
+    (by-locate .locate .result) (by-locate .locate .ensures) (by-at .at .given .0 .0) (by-at .at .given .0 .1 .0) (by-at .at .given .1) _
     (by-span-of .span-of .result) (by-span-of2 .span-of2 .result) _ (by-span-of .span-of .ensures) (by-span1 .span1 .given .1)
     (by-span-of2 .span-of2 .ensures) (c .before .enum-told3 .given .1)
 
@@ -78,11 +78,11 @@ returns-4 c =
     let by-span1 = by-span-of2 .before .before in
     let by-span-of = by-span1 .before .before in
     let by-at = by-span-of .before .before in
-    let by-place = by-at .before .before in
-    let entry = by-place .before .before .before in
+    let by-locate = by-at .before .before in
+    let entry = by-locate .before .before .before in
     let args = entry .args in
-    both-spans (args .y) (args .z) (now (args .first)) (now (args .second)) (args .place1) (args .place2) (by-place .place .result)
-    (by-place .place .ensures) (by-at .at .given .0 .0) (by-at .at .given .0 .1 .0) (by-at .at .given .1) _ _
+    both-spans (args .y) (args .z) (now (args .first)) (now (args .second)) (args .place1) (args .place2) (by-locate .locate .result)
+    (by-locate .locate .ensures) (by-at .at .given .0 .0) (by-at .at .given .0 .1 .0) (by-at .at .given .1) _ _
     (by-span-of .span-of .result) (by-span-of2 .span-of2 .result) (by-span-of .span-of .ensures) (by-span1 .span1 .given .1)
     (by-span-of2 .span-of2 .ensures) (c .before .span2 .given .1)
 
@@ -90,7 +90,7 @@ pub judge-spec : {M : Type 1} → statement M
 judge-spec =
     tie.close
     (tie.spec
-    place-requires
+    locate-requires
     enum-known-at
     enum-told
     returns

@@ -1,23 +1,23 @@
--- `group_mates::place_by` meets its contract. Assumes nothing.
+-- `group_mates::role_by` meets its contract. Assumes nothing.
 use mathlib.Core.Path.{sym, _∙_}
-use Rattle.group_mates.specs.Register.{placeBy}
+use Rattle.group_mates.specs.Register.{roleBy}
 use native.Mathlib.Omega.{arith}
 use borrow.Author.Needs.{needs}
-use Rattle.group_mates.proofs.place_by.Statement.{statement}
-use Rattle.group_mates.proofs.place_by.Tie as tie
+use Rattle.group_mates.proofs.role_by.Statement.{statement}
+use Rattle.group_mates.proofs.role_by.Tie as tie
 
 secondary-requires : tie.Need-secondary-requires
 secondary-requires c κs = search needs
 
 returns : tie.Need-returns
-unfolding placeBy
+unfolding roleBy
 returns c = (simp (sym (c .before .secondary .ensures) ∙ c .if1 .taken), omega arith)
 
 supplementary-requires : tie.Need-supplementary-requires
 supplementary-requires c κs = search needs
 
 returns-2 : tie.Need-returns-2
-unfolding placeBy
+unfolding roleBy
 returns-2 c =
     let by-if1 = c .before .before in
     let by-secondary = by-if1 .before in
@@ -27,7 +27,7 @@ first-segment-requires : tie.Need-first-segment-requires
 first-segment-requires c κs = search needs
 
 returns-3 : tie.Need-returns-3
-unfolding placeBy
+unfolding roleBy
 returns-3 c =
     let by-if2 = c .before .before in
     let by-supplementary = by-if2 .before in
@@ -45,7 +45,7 @@ last-segment-requires : tie.Need-last-segment-requires
 last-segment-requires c κs = search needs
 
 returns-4 : tie.Need-returns-4
-unfolding placeBy
+unfolding roleBy
 returns-4 c =
     let by-if3 = c .before .before in
     let by-first-segment = by-if3 .before in
@@ -63,7 +63,7 @@ returns-4 c =
     )
 
 returns-5 : tie.Need-returns-5
-unfolding placeBy
+unfolding roleBy
 returns-5 c =
     let by-if3 = c .before .before in
     let by-first-segment = by-if3 .before in
@@ -80,8 +80,8 @@ returns-5 c =
       omega arith,
     )
 
-pub place-by-spec : {M : Type 1} → statement M
-place-by-spec =
+pub role-by-spec : {M : Type 1} → statement M
+role-by-spec =
     tie.close
     (tie.spec
     secondary-requires

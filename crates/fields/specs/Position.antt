@@ -2,13 +2,13 @@
 use mathlib.Core.Bool.{Bool, false}
 use lib.Dec.{eqb}
 use lib.IntN.{ℤ, pos, negsuc}
-use Rattle.fields.specs.declared.Placed.{Placed}
-use Rattle.fields.specs.declared.Placed.the-variants.{At, Unplaced}
+use Rattle.fields.specs.declared.Position.{Position}
+use Rattle.fields.specs.declared.Position.the-variants.{At, Unplaced}
 
 -- a negative position is none
-abbrev pub placedOf : ℤ → Placed
-placedOf (pos n) = At n
-placedOf (negsuc n) = Unplaced
+abbrev pub positionOf : ℤ → Position
+positionOf (pos n) = At n
+positionOf (negsuc n) = Unplaced
 
 -- two ids are equal
 abbrev pub sameId : ℤ → ℤ → Bool

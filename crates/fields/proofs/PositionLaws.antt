@@ -12,8 +12,8 @@ use mir.Syntax.{w32}
 use mir.Val.{SFits, Fits, toZ, ofZ}
 use mir.Facts.{toZ-pos, toZ-ofZ}
 use Rattle.fields.specs.Number.{signed32}
-use Rattle.fields.specs.Placed.{placedOf, sameId}
-use Rattle.fields.specs.declared.Placed.the-variants.{At, Unplaced}
+use Rattle.fields.specs.Position.{positionOf, sameId}
+use Rattle.fields.specs.declared.Position.the-variants.{At, Unplaced}
 
 minus-one : (k : ℕ) → negsuc 0 -ℤ pos k ≡ negsuc k
 minus-one zero = refl
@@ -32,12 +32,12 @@ module _ (u : ℕ) (h : 2147483648 ≤ u) (l : u < 4294967296) where
   below-is = toZ-ofZ below-fits ∙ below ∙ simp (le-ltb u 2147483648 h)
 
 -- a position below zero is none
-pub negative : (p : ℤ) → ltZ p (pos 0) ≡ true → Unplaced ≡ placedOf p
+pub negative : (p : ℤ) → ltZ p (pos 0) ≡ true → Unplaced ≡ positionOf p
 negative (pos n) e = absurd (let h : n < 0 = ltb-true n 0 e in omega arith)
 negative (negsuc n) e = refl
 
 -- any other fits 32 bits without a sign
-pub not-negative : (p : ℤ) → SFits w32 p → ltZ p (pos 0) ≡ false → T (nonNeg p) × Fits w32 (natAbs p) × (At (natAbs p) ≡ placedOf p)
+pub not-negative : (p : ℤ) → SFits w32 p → ltZ p (pos 0) ≡ false → T (nonNeg p) × Fits w32 (natAbs p) × (At (natAbs p) ≡ positionOf p)
 not-negative (pos n) f e = let h : n < 2 ^ 31 = f .sfits in (tt, record { fits = omega arith }, refl)
 not-negative (negsuc n) f e = absurd (true≢false e)
 

@@ -1,11 +1,11 @@
--- `pair_judgement::place` meets its contract. Assumes nothing.
+-- `pair_judgement::locate` meets its contract. Assumes nothing.
 use mathlib.Core.Path.{sym, _∙_}
 use borrow.Author.Tests.{not-true, not-false}
 use Rattle.pair_judgement.proofs.JudgeLaws.{first-unmapped, second-unmapped, ids-differ, first-unplaced, second-unplaced, both-placed}
 use denote.Ref.{now}
 use borrow.Author.Needs.{needs}
-use Rattle.pair_judgement.proofs.place.Statement.{statement}
-use Rattle.pair_judgement.proofs.place.Tie as tie
+use Rattle.pair_judgement.proofs.locate.Statement.{statement}
+use Rattle.pair_judgement.proofs.locate.Tie as tie
 
 flags-of-requires : tie.Need-flags-of-requires
 flags-of-requires c κs = search needs
@@ -138,8 +138,8 @@ returns-6 c =
     (by-at1 .at1 .given .0 .0) (sym (by-start-of .start-of .ensures) ∙ by-at1 .at1 .given .1) (c .before .at2 .given .0 .0)
     (sym (by-start-of2 .start-of2 .ensures) ∙ c .before .at2 .given .1)
 
-pub place-spec : {M : Type 1} → statement M
-place-spec =
+pub locate-spec : {M : Type 1} → statement M
+locate-spec =
     tie.close
     (tie.spec
     flags-of-requires

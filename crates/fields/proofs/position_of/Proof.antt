@@ -1,8 +1,8 @@
--- `fields::place_of` meets its contract: by the sign of the position. Assumes nothing.
+-- `fields::position_of` meets its contract: by the sign of the position. Assumes nothing.
 use mir.Facts.{toZ-ofZ}
-use Rattle.fields.proofs.PlacedLaws.{negative, not-negative}
-use Rattle.fields.proofs.place_of.Statement.{statement}
-use Rattle.fields.proofs.place_of.Tie as tie
+use Rattle.fields.proofs.PositionLaws.{negative, not-negative}
+use Rattle.fields.proofs.position_of.Statement.{statement}
+use Rattle.fields.proofs.position_of.Tie as tie
 
 returns : tie.Need-returns
 returns c = negative (c .before .args .p) (rw (toZ-ofZ (c .before .fits .p)) at (c .if1 .taken))
@@ -19,5 +19,5 @@ returns-2 c =
     let k = not-negative (c .before .args .p) f (rw (toZ-ofZ f) at (c .if1 .left)) in
     rw (toZ-ofZ f) (k .2)
 
-pub place-of-spec : {M : Type 1} → statement M
-place-of-spec = tie.close (tie.spec returns cast-t3 returns-2)
+pub position-of-spec : {M : Type 1} → statement M
+position-of-spec = tie.close (tie.spec returns cast-t3 returns-2)
