@@ -14,6 +14,7 @@ use Rattle.group_verdicts.specs.Judged.{pairAt}
 use Rattle.group_applying.specs.declared.Applied.{Applied}
 use Rattle.group_applying.specs.Applied.{written, grown, overlapCount, overlapsIn}
 
+-- so many pairs, of which so many overlap, and their counts
 abbrev pub applied : ℕ → ℕ → CorrectionStats → Applied
 applied p o g = record { pairs = p; overlapping = o; stats = g }
 
@@ -41,7 +42,6 @@ corrected w s n = written w s (pairsOf s n) s
 abbrev pub Front : List ℕ → List ℕ → ℕ → Type 0
 Front u out at = take at out ≡ take at u
 
--- so many pairs, of which so many overlap, and their counts
 -- what record k adds, by its mate: a pair counts where its first stands
 abbrev pub addedBy : Strategies → List ℕ → ℕ → ℕ → Applied
 addedBy w s k zero = applied 0 0 zeroed
