@@ -56,7 +56,7 @@ def texts():
 
 def check_sources():
     table = {int(n) for n in re.findall(r'(?m)^REFUSAL\((\d+),', read('hosts/c/answers.def'))}
-    numbers = {int(n) for n in re.findall(r'Refusal::\w+(?:\(_\))? => (\d+),', read('crates/refusal/src/lib.rt').split('pub fn place')[0])}
+    numbers = {int(n) for n in re.findall(r'Refusal::\w+(?:\(p\))? => Row \{\s*number: (\d+),', read('crates/refusal/src/lib.rt'))}
     check(len(numbers) > 0 and numbers == table, f'crates/refusal has {sorted(numbers)}, the table {sorted(table)}')
     check(table == set(WORDS), f'docs/REFUSALS.md has {sorted(WORDS)}, the table {sorted(table)}')
     rows = re.findall(r'(?m)^ \* +\d+ +((?:1[012]\d\d )+) ', read('include/overlap.h'))
