@@ -60,7 +60,7 @@ pub fn merge(
             b = cigar::pass(second, ze, b, smaller(b.left, a.position.0 - b.position.0));
         } else {
             let n = smaller(a.left, b.left);
-            h = blocks::treat_row(
+            h = rows::treat_row(
                 w.strategies,
                 first,
                 second,
