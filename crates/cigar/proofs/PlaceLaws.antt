@@ -8,6 +8,8 @@ use native.Mathlib.Omega.{arith}
 use native.Mathlib.Numerals.{add-one, add-four}
 use lib.ListN.{length, drop, length-drop, List·getD-eq-default}
 use lib.Seq.{drop-cons}
+use mir.Syntax.{w64}
+use mir.Val.{Fits}
 use borrow.Author.Tests.{lt-ltb, le-ltb, le-leb, lt-leb}
 use Rattle.cigar.specs.Operation.{Kind, Both, Reference, Read, Neither, Unknown, kindOf, kind, len, readLen, refLen, readOf, refOf, opsOf}
 use Rattle.cigar.specs.Found.{runAt, opAt, offAt}
@@ -99,6 +101,15 @@ uses-most Reference n = (omega arith, omega arith, omega arith, omega arith)
 uses-most Read n = (omega arith, omega arith, omega arith, omega arith)
 uses-most Neither n = (omega arith, omega arith, omega arith, omega arith)
 uses-most Unknown n = (omega arith, omega arith, omega arith, omega arith)
+
+bit-times : (b n : ℕ) → b < 2 → b * n ≤ n
+bit-times zero n h = omega arith
+bit-times (suc zero) n h = omega arith
+bit-times (suc (suc b)) n h = absurd (omega arith)
+
+-- a bit times a number fits where the number does
+pub bit-fits : (x n : ℕ) → Fits w64 n → Fits w64 (x % 2 * n)
+bit-fits x n h = omega (arith, bit-times (x % 2) n (omega arith), h)
 
 module _ (op : ℕ) where
   code : op % 16 < 16

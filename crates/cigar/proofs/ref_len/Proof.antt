@@ -1,6 +1,6 @@
 -- `cigar::ref_len` meets its contract. Assumes nothing.
 use native.Mathlib.Omega.{arith}
-use Rattle.cigar.proofs.PlaceLaws.{ref-told}
+use Rattle.cigar.proofs.PlaceLaws.{bit-fits, ref-told}
 use borrow.Author.Needs.{needs}
 use Rattle.cigar.proofs.ref_len.Statement.{statement}
 use Rattle.cigar.proofs.ref_len.Tie as tie
@@ -9,7 +9,7 @@ shr-result : tie.Need-shr-result
 shr-result c = search needs
 
 mul-result : tie.Need-mul-result
-mul-result c = let t = ref-told (c .args .op) in let e = t .0 in omega (arith, e, t .1)
+mul-result c = bit-fits _ _ (omega arith)
 
 returns : tie.Need-returns
 returns c = let t = ref-told (c .args .op) in let e = t .0 in (e, omega (arith, e, t .1))
