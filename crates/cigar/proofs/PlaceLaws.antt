@@ -1,19 +1,20 @@
 -- Laws of runs and operations.
 use Prim.Native.Nat.{ℕ, zero, suc, _+_, _-_, _*_, _/_, _%_, _^_, _≤_, _<_}
-use mathlib.Core.Path.{_≡_, refl, ap, _∙_}
+use mathlib.Core.Path.{_≡_, refl, sym, ap, _∙_}
 use mathlib.Core.List.{List, [], _∷_}
 use mathlib.Core.Option.{Option, none, some}
 use mathlib.Core.Logic.{_⊎_, ⊎-elim}
+use mathlib.Core.Bool.{true, false}
 use native.Mathlib.Omega.{arith}
 use native.Mathlib.Numerals.{add-one, add-four}
 use lib.ListN.{length, drop, length-drop, List·getD-eq-default}
 use lib.Seq.{drop-cons}
+use lib.Dec.{eqb}
 use mir.Syntax.{w64}
 use mir.Val.{Fits}
-use borrow.Author.Tests.{lt-ltb, le-ltb, le-leb, lt-leb}
+use borrow.Author.Tests.{lt-ltb, le-ltb, le-leb, lt-leb, eqb-true, eqb-false}
 use Rattle.cigar.specs.Operation.{Kind, Both, Reference, Read, Neither, Unknown, kindOf, kind, len, readLen, refLen, readOf, refOf, opsOf}
 use Rattle.cigar.specs.Found.{runAt, opAt, offAt}
-use Rattle.cigar.specs.Passing.{runOf, runLen}
 use Rattle.fields.specs.Number.{unsigned}
 use Rattle.fields.proofs.Arith.{lt-or-le}
 
@@ -35,6 +36,21 @@ run-zero q r p x =
     (λ h. run-past 0 q r p x (omega arith))
     (lt-or-le p r)
 
+-- a run of m bases and one of n right behind it are one run of m + n
+pub run-join : (m n q r p : ℕ) (x : Option ℕ) → runAt (m + n) q r p x ≡ runAt m q r p (runAt n (q + m) (r + m) p x)
+run-join m n q r p x =
+    ⊎-elim
+    (λ a. run-below (m + n) q r p x a ∙ sym (run-below m q r p _ a ∙ run-below n (q + m) (r + m) p x (omega arith)))
+    (λ a. ⊎-elim (λ b. run-in (m + n) q r p x a (omega arith) ∙ sym (run-in m q r p _ a b)) later (lt-or-le p (r + m)))
+    (lt-or-le p r)
+  where
+    later : r + m ≤ p → runAt (m + n) q r p x ≡ runAt m q r p (runAt n (q + m) (r + m) p x)
+    later b =
+        ⊎-elim
+        (λ d. run-in (m + n) q r p x (omega arith) (omega arith) ∙ (ap some (omega arith) ∙ sym (run-past m q r p _ b ∙ run-in n (q + m) (r + m) p x b d)))
+        (λ d. run-past (m + n) q r p x (omega arith) ∙ sym (run-past m q r p _ b ∙ run-past n (q + m) (r + m) p x d))
+        (lt-or-le p (r + m + n))
+
 -- an operation leaves a position below it to what follows
 op-below : (k : Kind) (n q r p : ℕ) (x : Option ℕ) → p < r → opAt k n q r p x ≡ x
 op-below Both n q r p x h = run-below n q r p x h
@@ -42,6 +58,14 @@ op-below Reference n q r p x h = refl
 op-below Read n q r p x h = refl
 op-below Neither n q r p x h = refl
 op-below Unknown n q r p x h = refl
+
+-- one that isn't aligned leaves it every position
+pub op-none : (k : Kind) (n q r p : ℕ) (x : Option ℕ) → (k ≡ Both → ⊥) → opAt k n q r p x ≡ x
+op-none Both n q r p x h = absurd (h refl)
+op-none Reference n q r p x h = refl
+op-none Read n q r p x h = refl
+op-none Neither n q r p x h = refl
+op-none Unknown n q r p x h = refl
 
 pub off-below : (ops : List ℕ) (q r p : ℕ) → p < r → offAt ops q r p ≡ none
 unfolding offAt
@@ -87,20 +111,24 @@ ref-times Read n = omega arith
 ref-times Neither n = omega arith
 ref-times Unknown n = omega arith
 
-run-times : (k : Kind) (n : ℕ) → refOf k 1 * readOf k n ≡ runOf k n
-run-times Both n = omega arith
-run-times Reference n = omega arith
-run-times Read n = omega arith
-run-times Neither n = omega arith
-run-times Unknown n = omega arith
+-- an aligned operation uses both, and only that
+both-uses : (k : Kind) → k ≡ Both → readOf k 1 * refOf k 1 ≡ 1
+both-uses k e = rw e
+
+both-used : (k : Kind) → readOf k 1 * refOf k 1 ≡ 1 → k ≡ Both
+both-used Both e = refl
+both-used Reference e = absurd (omega arith)
+both-used Read e = absurd (omega arith)
+both-used Neither e = absurd (omega arith)
+both-used Unknown e = absurd (omega arith)
 
 -- no more than its length
-uses-most : (k : Kind) (n : ℕ) → (readOf k n ≤ n) × (refOf k n ≤ n) × (runOf k n ≤ readOf k n) × (runOf k n ≤ refOf k n)
-uses-most Both n = (omega arith, omega arith, omega arith, omega arith)
-uses-most Reference n = (omega arith, omega arith, omega arith, omega arith)
-uses-most Read n = (omega arith, omega arith, omega arith, omega arith)
-uses-most Neither n = (omega arith, omega arith, omega arith, omega arith)
-uses-most Unknown n = (omega arith, omega arith, omega arith, omega arith)
+uses-most : (k : Kind) (n : ℕ) → (readOf k n ≤ n) × (refOf k n ≤ n)
+uses-most Both n = (omega arith, omega arith)
+uses-most Reference n = (omega arith, omega arith)
+uses-most Read n = (omega arith, omega arith)
+uses-most Neither n = (omega arith, omega arith)
+uses-most Unknown n = (omega arith, omega arith)
 
 bit-times : (b n : ℕ) → b < 2 → b * n ≤ n
 bit-times zero n h = omega arith
@@ -123,11 +151,14 @@ module _ (op : ℕ) where
   unfolding Told
   ref-told = (ap (λ (x : ℕ). x * (op / 16)) (told (op % 16) code .1) ∙ ref-times (kind op) (len op), uses-most (kind op) (len op) .1)
 
-  pub run-told : (397 / 2 ^ (op % 16) % 2 * readLen op ≡ runLen op) × (runLen op ≤ readLen op) × (runLen op ≤ refLen op)
+  abbrev bits : ℕ
+  bits = 403 / 2 ^ (op % 16) % 2 * (397 / 2 ^ (op % 16) % 2)
+
+  pub both-told : (eqb bits 1 ≡ true → kind op ≡ Both) × (eqb bits 1 ≡ false → kind op ≡ Both → ⊥)
   unfolding Told
-  run-told =
-      let m = uses-most (kind op) (len op) in
-      (ap (λ (x : ℕ). x * readLen op) (told (op % 16) code .1) ∙ run-times (kind op) (len op), m .2, m .3)
+  both-told =
+      rw (told (op % 16) code .0, told (op % 16) code .1)
+      (λ e. both-used (kind op) (eqb-true _ 1 e), λ e f. eqb-false _ 1 e (both-uses (kind op) f))
 
 -- ---- the operations of a list of bytes
 pub kind-bad : (c : ℕ) → 9 ≤ c → kindOf c ≡ Unknown

@@ -4,8 +4,7 @@ use mathlib.Core.Path.{_≡_}
 use mathlib.Core.List.{List, []}
 use mathlib.Core.Option.{Option}
 use lib.ListN.{drop, length}
-use Rattle.fields.specs.Number.{unsigned}
-use Rattle.cigar.specs.Operation.{Kind, Both, Reference, Read, Neither, Unknown, kind, len, readSum, refSum, opsOf}
+use Rattle.cigar.specs.Operation.{readSum, refSum, opsOf}
 use Rattle.cigar.specs.declared.Cursor.{Cursor}
 use Rattle.cigar.specs.Found.{runAt, offAt}
 
@@ -26,28 +25,6 @@ refEnd cig c = c .position .0 + c .left + refSum (restOps cig c)
 
 abbrev pub cursor : ℕ → ℕ → ℕ → ℕ → Cursor
 cursor at q r n = record { at = at; offset = record { 0 = q }; position = record { 0 = r }; left = n }
-
--- how many bases an operation places on the reference
-abbrev pub runOf : Kind → ℕ → ℕ
-runOf Both n = n
-runOf Reference n = 0
-runOf Read n = 0
-runOf Neither n = 0
-runOf Unknown n = 0
-
-abbrev pub runLen : ℕ → ℕ
-runLen op = runOf (kind op) (len op)
-
--- the cursor past an operation of the kind k and the length n
-abbrev pub tookKind : Kind → ℕ → Cursor → Cursor
-tookKind Both n c = cursor (c .at + 4) (c .offset .0) (c .position .0) n
-tookKind Reference n c = cursor (c .at + 4) (c .offset .0) (c .position .0 + n) 0
-tookKind Read n c = cursor (c .at + 4) (c .offset .0 + n) (c .position .0) 0
-tookKind Neither n c = cursor (c .at + 4) (c .offset .0) (c .position .0) 0
-tookKind Unknown n c = cursor (c .at + 4) (c .offset .0) (c .position .0) 0
-
-abbrev pub tookOperation : List ℕ → Cursor → Cursor
-tookOperation cig c = tookKind (kind (unsigned 4 cig (c .at))) (len (unsigned 4 cig (c .at))) c
 
 abbrev pub advanced : Cursor → ℕ → Cursor
 advanced c d = cursor (c .at) (c .offset .0 + d) (c .position .0 + d) (c .left - d)

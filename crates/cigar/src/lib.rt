@@ -5,13 +5,14 @@ use fields::ReadOffset;
 use fields::RefPos;
 use refusal::Refusal;
 ghost use mathlib.Core.Path.{_≡_};
+ghost use mathlib.Core.Bool.{true, false};
 ghost use Prim.Native.Nat.{_+_, _/_, _≤_, _<_};
 ghost use lib.ListN.{length, take};
 ghost use Rattle.fields.specs.Number.{unsigned};
 ghost use Rattle.fields.specs.Sound.{Lies};
-ghost use Rattle.cigar.specs.Operation.{readLen, refLen, operations};
+ghost use Rattle.cigar.specs.Operation.{Both, kind, readLen, refLen, operations};
 ghost use Rattle.cigar.specs.Judge.{walkOf, operationsOf, spanOf};
-ghost use Rattle.cigar.specs.Passing.{cursor, runLen, tookOperation, advanced, Stands, Settled};
+ghost use Rattle.cigar.specs.Passing.{cursor, advanced, Stands, Settled};
 
 // Which codes use the read, and which the reference: bit c for code c. Codes 0 to 8 are
 // M I D N S H P = X.
@@ -69,12 +70,11 @@ fn ref_len(op: usize) -> usize
     (ON_REFERENCE >> (op % 16)) % 2 * (op / 16)
 }
 
-// How many bases it places on the reference.
-fn run_len(op: usize) -> usize
-    requires { ⌜ op < 4294967296 ⌝ }
-    ensures { λ r. ⌜ (r ≡ runLen op) × (r ≤ readLen op) × (r ≤ refLen op) ⌝ }
+// Whether it uses both, as an aligned operation does.
+fn uses_both(op: usize) -> bool
+    ensures { λ r. ⌜ (r ≡ true → kind op ≡ Both) × (r ≡ false → kind op ≡ Both → ⊥) ⌝ }
 {
-    (ON_REFERENCE >> (op % 16)) % 2 * read_len(op)
+    (ON_READ >> (op % 16)) % 2 * ((ON_REFERENCE >> (op % 16)) % 2) == 1
 }
 
 // The operation at a byte: its length times 16, and its code.
@@ -152,34 +152,41 @@ pub fn check_span(pos: u32, uses: usize, place: u16) -> Span
     })
 }
 
-// The cursor past the operation at hand, which lies before `end`.
-fn take_operation(s: &[u8], end: usize, c: Cursor) -> Cursor
-    requires { ⌜ (end ≤ length (now s)) × (c .at + 4 ≤ end) × (c .left ≡ 0) × Stands (take end (now s)) c ⌝ }
-    ensures { λ r. ⌜ r ≡ tookOperation (take end (now (s .entry))) c ⌝ }
+// The cursor moved by what an operation uses of the read and of the reference.
+fn skip(c: Cursor, op: usize) -> Cursor
+    requires { ⌜ (c .offset .0 ≤ 4294967296) × (c .position .0 ≤ 4294967296) × (op < 4294967296) ⌝ }
+    ensures { λ r. ⌜ r ≡ cursor (c .at) (c .offset .0 + readLen op) (c .position .0 + refLen op) (c .left) ⌝ }
 {
-    let at = c.at;
-    let op = operation_at(s, at);
-    let run = run_len(op);
     Cursor {
-        at: at + 4,
-        offset: ReadOffset(c.offset.0 + (read_len(op) - run)),
-        position: RefPos(c.position.0 + (ref_len(op) - run)),
-        left: run,
+        at: c.at,
+        offset: ReadOffset(c.offset.0 + read_len(op)),
+        position: RefPos(c.position.0 + ref_len(op)),
+        left: c.left,
     }
 }
 
-// The cursor with a base at hand, unless there is none left.
+// The cursor with a base at hand, unless there is none left. Aligned operations side by side, as in
+// 3=1X1=, are one run.
 fn settle(s: &[u8], end: usize, c: Cursor) -> Cursor
     requires { ⌜ (end ≤ length (now s)) × Stands (take end (now s)) c ⌝ }
     ensures { λ r. ⌜ Settled (take end (now (s .entry))) c r ⌝ }
 {
+    if c.left != 0 {
+        return c;
+    }
     let mut cur = c;
-    while cur.left == 0 {
+    while 4 <= end - cur.at {
         let at = cur.at;
-        if end - at < 4 {
-            return cur;
+        let op = operation_at(s, at);
+        if uses_both(op) {
+            cur.left += op / 16;
+        } else {
+            if cur.left != 0 {
+                return cur;
+            }
+            cur = skip(cur, op);
         }
-        cur = take_operation(s, end, cur);
+        cur.at = at + 4;
     }
     cur
 }
