@@ -45,7 +45,7 @@ unfolding keyIn
 fits-chain x y kx ky q ex ey t =
     let p = and-true (eqb (roleIn x) q) (sameBytes (nameIn x) (nameIn y)) t in
     let e : kx / 4 ≡ ky / 4 = omega (arith, ex, ey, role-small x, role-small y, ap digestOf (same-true (nameIn x) (nameIn y) (p .1))) in
-    ap (λ (z : ℕ). z / 16777216 % 256) e
+    ap (λ (z : ℕ). z / 268435456 % 256) e
 
 module _ (s key : List ℕ) (n : ℕ) (u : Keyed s key n) (q i : ℕ) (below : i < n) where
   abbrev h : ℕ

@@ -20,7 +20,7 @@ pub record Keyed (s key : List ℕ) (n : ℕ) : Type 0 where
 
 -- records are chained by their name's digest: each links to the one before it in its chain
 abbrev pub chainOf : ℕ → ℕ
-chainOf d = d / 4 / 16777216 % 256
+chainOf d = d / 4 / 268435456 % 256
 
 -- one more than the last, of the first n records, that is of chain h; 0: none
 unfoldable pub lastIn : List ℕ → ℕ → ℕ → ℕ

@@ -77,7 +77,7 @@ fn enter_keys(s: &[u8], begins: &[usize], n: usize, key: &mut [u64])
 fn chain_of(d: u64) -> usize
     ensures { λ r. ⌜ (r ≡ chainOf d) × (r < 256) ⌝ }
 {
-    (d / 4 / 16777216 % 256) as usize
+    (d / 4 / 268435456 % 256) as usize
 }
 
 // Empties the chains that the records are in.

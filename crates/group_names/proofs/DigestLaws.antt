@@ -6,7 +6,7 @@ use native.Mathlib.Omega.{arith}
 use borrow.Author.Tests.{lt-ltb, le-ltb}
 use lib.ListN.{length, getD}
 use Rattle.fields.specs.Number.{unsigned}
-use Rattle.group_names.specs.Digest.{mixOf, mixed, digestOf}
+use Rattle.group_names.specs.Digest.{mixOf, mixed, allMixed}
 
 pub mixed-next : (w h n i k m : ℕ) (x : List ℕ) → k ≡ suc m → n ≡ unsigned w x i → mixed w h x i k ≡ mixed w (mixOf h n) x (i + w) m
 unfolding mixed
@@ -20,10 +20,10 @@ pub one-byte : (x : List ℕ) (i : ℕ) → getD x i 0 ≡ unsigned 1 x i
 unfolding unsigned
 one-byte x i = omega arith
 
-pub digest-short : (x : List ℕ) → length x < 8 → mixed 1 0 x 0 (length x) ≡ digestOf x
-unfolding digestOf
-digest-short x h = rw (lt-ltb (length x) 8 h)
+pub mixed-short : (x : List ℕ) → length x < 8 → mixed 1 0 x 0 (length x) ≡ allMixed x
+unfolding allMixed
+mixed-short x h = rw (lt-ltb (length x) 8 h)
 
-pub digest-long : (x : List ℕ) (h n : ℕ) → 8 ≤ length x → h ≡ mixed 8 0 x 0 (length x / 8) → n ≡ unsigned 8 x (length x - 8) → mixOf h n ≡ digestOf x
-unfolding digestOf
-digest-long x h n k e f = rw (le-ltb (length x) 8 k, e, f)
+pub mixed-long : (x : List ℕ) (h n : ℕ) → 8 ≤ length x → h ≡ mixed 8 0 x 0 ((length x - 1) / 8) → n ≡ unsigned 8 x (length x - 8) → mixOf h n ≡ allMixed x
+unfolding allMixed
+mixed-long x h n k e f = rw (le-ltb (length x) 8 k, e, f)

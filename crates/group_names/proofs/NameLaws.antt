@@ -1,15 +1,16 @@
 -- Names compared byte by byte, and small facts on tests.
-use Prim.Native.Nat.{ℕ, zero, suc, _+_, _-_, _<_, _≤_}
-use mathlib.Core.Path.{_≡_, refl, _∙_, ap, ap₂}
+use Prim.Native.Nat.{ℕ, zero, suc, _+_, _<_, _≤_}
+use mathlib.Core.Path.{_≡_, refl, sym, ap, ap₂}
 use mathlib.Core.List.{List, [], _∷_}
 use mathlib.Core.Bool.{Bool, true, false, cond, _&&_}
-use native.Mathlib.Numerals.{add-one}
+use mathlib.Core.Logic.{⊎-elim}
 use native.Mathlib.Omega.{arith}
-use borrow.Author.Tests.{eq-eqb, eqb-true}
+use borrow.Author.Tests.{eq-eqb, eqb-true, eqb-false}
 use lib.Dec.{eqb}
-use lib.ListN.{length, getD, drop, drop-of-length-le}
-use lib.Seq.{drop-cons}
+use lib.ListN.{length, getD}
+use lib.Seq.{ext-getD}
 use Rattle.fields.specs.Number.{unsigned}
+use Rattle.fields.proofs.Arith.{lt-or-le}
 use Rattle.group_names.specs.Same.{sameBytes}
 
 pub no-bool : false ≡ true → ⊥
@@ -36,43 +37,39 @@ pub same-refl : (x : List ℕ) → sameBytes x x ≡ true
 same-refl [] = refl
 same-refl (a ∷ x) = rw (eq-eqb a a refl) (same-refl x)
 
-pub other-length : (x y : List ℕ) → (length x ≡ length y → ⊥) → sameBytes x y ≡ false
-other-length [] [] h = absurd (h refl)
-other-length [] (b ∷ y) h = refl
-other-length (a ∷ x) [] h = refl
-other-length (a ∷ x) (b ∷ y) h = rw (other-length x y (λ e. h (ap suc e))) (last (eqb a b))
+-- names in which one thing differs are not the same
+pub unlike : (f : List ℕ → ℕ) (x y : List ℕ) → (f x ≡ f y → ⊥) → false ≡ sameBytes x y
+unlike f x y d = go (sameBytes x y) refl
   where
-    last : (t : Bool) → (t && false) ≡ false
-    last true = refl
-    last false = refl
+    go : (t : Bool) → sameBytes x y ≡ t → false ≡ t
+    go true e = absurd (d (ap f (same-true x y e)))
+    go false e = refl
 
-pub step-same : (x y : List ℕ) (i : ℕ) → i < length x → i < length y → sameBytes (drop i x) (drop i y) ≡ (eqb (getD x i 0) (getD y i 0) && sameBytes (drop (i + 1) x) (drop (i + 1) y))
-step-same x y i h k = rw (add-one, drop-cons x i 0 h, drop-cons y i 0 k)
+-- the first n bytes of two names are equal
+abbrev pub Alike : List ℕ → List ℕ → ℕ → Type 0
+Alike x y n = (k : ℕ) → k < n → getD x k 0 ≡ getD y k 0
 
-pub rest-same : (x y : List ℕ) (i : ℕ) → length x ≤ i → length y ≤ i → true ≡ sameBytes (drop i x) (drop i y)
-rest-same x y i h k = rw (drop-of-length-le x h, drop-of-length-le y k)
+pub alike-all : (x y : List ℕ) (n : ℕ) → length x ≡ length y → length x ≤ n → Alike x y n → true ≡ sameBytes x y
+alike-all x y n e l h = rw (ext-getD 0 x y e (λ k b. h k (omega arith))) (sym (same-refl y))
 
--- ---- w bytes at a time, by the number that they hold
-next-same : (x y : List ℕ) (i : ℕ) → i < length x → i < length y → getD x i 0 ≡ getD y i 0 → sameBytes (drop i x) (drop i y) ≡ sameBytes (drop (i + 1) x) (drop (i + 1) y)
-next-same x y i h k e = step-same x y i h k ∙ ap (λ (t : Bool). t && sameBytes (drop (i + 1) x) (drop (i + 1) y)) (eq-eqb _ _ e)
+module _ (x y : List ℕ) (bx : (k : ℕ) → getD x k 0 < 256) (by : (k : ℕ) → getD y k 0 < 256) where
+  -- equal numbers have equal bytes
+  word-alike : (w i : ℕ) → unsigned w x i ≡ unsigned w y i → (k : ℕ) → i ≤ k → k < i + w → getD x k 0 ≡ getD y k 0
+  unfolding unsigned
+  word-alike zero i e k l b = absurd (omega arith)
+  word-alike (suc w) i e k l b =
+      ⊎-elim (λ (g : i < k). word-alike w (i + 1) (omega (arith, bx i, by i)) k (omega arith) (omega arith))
+      (λ (g : k ≤ i). let z : k ≡ i = omega arith in rw z (omega (arith, bx i, by i)))
+      (lt-or-le i k)
 
-pub equal-words : (w : ℕ) (x y : List ℕ) (i : ℕ) → i + w ≤ length x → i + w ≤ length y → ((k : ℕ) → getD x k 0 < 256) → ((k : ℕ) → getD y k 0 < 256) → unsigned w x i ≡ unsigned w y i
-    → sameBytes (drop i x) (drop i y) ≡ sameBytes (drop (i + w) x) (drop (i + w) y)
-unfolding unsigned
-equal-words zero x y i h k bx by e = let z : i + 0 ≡ i = omega arith in rw z
-equal-words (suc w) x y i h k bx by e =
-    let z : i + suc w ≡ i + 1 + w = omega arith in
-    let a : getD x i 0 ≡ getD y i 0 = omega (arith, bx i, by i) in
-    let b : unsigned w x (i + 1) ≡ unsigned w y (i + 1) = omega (arith, bx i, by i) in
-    rw z (next-same x y i (omega arith) (omega arith) a ∙ equal-words w x y (i + 1) (omega arith) (omega arith) bx by b)
+  -- one more word, which may begin anywhere in what is known to be equal
+  pub alike-word : (w i n : ℕ) → i ≤ n → Alike x y n → unsigned w x i ≡ unsigned w y i → Alike x y (i + w)
+  alike-word w i n l h e k b = ⊎-elim (λ (g : k < n). h k g) (λ (g : n ≤ k). word-alike w i e k (omega arith) b) (lt-or-le k n)
 
-pub other-words : (w : ℕ) (x y : List ℕ) (i : ℕ) → i + w ≤ length x → i + w ≤ length y → (unsigned w x i ≡ unsigned w y i → ⊥) → sameBytes (drop i x) (drop i y) ≡ false
-unfolding unsigned
-other-words zero x y i h k d = absurd (d refl)
-other-words (suc w) x y i h k d = go (other-words w x y (i + 1) (omega arith) (omega arith)) (eqb (getD x i 0) (getD y i 0)) refl
-  where
-    go : ((unsigned w x (i + 1) ≡ unsigned w y (i + 1) → ⊥) → sameBytes (drop (i + 1) x) (drop (i + 1) y) ≡ false) → (t : Bool) → eqb (getD x i 0) (getD y i 0) ≡ t → sameBytes (drop i x) (drop i y) ≡ false
-    go up true f =
-        let a : getD x i 0 ≡ getD y i 0 = eqb-true _ _ f in
-        next-same x y i (omega arith) (omega arith) a ∙ up (λ e. d (omega (arith, a, e)))
-    go up false f = step-same x y i (omega arith) (omega arith) ∙ ap (λ (t : Bool). t && sameBytes (drop (i + 1) x) (drop (i + 1) y)) f
+  -- the last word decides
+  pub last-word : (w i n : ℕ) → length x ≡ length y → i + w ≡ length x → i ≤ n → Alike x y n → eqb (unsigned w x i) (unsigned w y i) ≡ sameBytes x y
+  last-word w i n s m l h = go (eqb (unsigned w x i) (unsigned w y i)) refl
+    where
+      go : (t : Bool) → eqb (unsigned w x i) (unsigned w y i) ≡ t → t ≡ sameBytes x y
+      go true e = alike-all x y (i + w) s (omega arith) (alike-word w i n l h (eqb-true _ _ e))
+      go false e = unlike (λ (z : List ℕ). unsigned w z i) x y (eqb-false _ _ e)

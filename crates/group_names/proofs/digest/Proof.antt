@@ -1,6 +1,6 @@
--- `group_names::digest` meets its contract. The loop keeps: the whole eights from byte `i` on, mixed into `h`, give what all of them give mixed
--- into 0, and `h` is below 2^62. The measure is the bytes left. Assumes nothing.
-use Prim.Native.Nat.{ℕ, _+_, _-_, _/_, _<_, _≤_}
+-- `group_names::digest` meets its contract. The loop keeps: the eights from byte `i` on, in front of the last eight bytes, mixed into `h`, give what
+-- all of them give mixed into 0. The measure is the bytes left. Assumes nothing.
+use Prim.Native.Nat.{ℕ, _+_, _-_, _/_}
 use mathlib.Core.Path.{_≡_, sym, ap, _∙_}
 use native.Mathlib.Omega.{arith}
 use lib.ListN.{length}
@@ -8,33 +8,33 @@ use denote.Ref.{now}
 use borrow.Author.Needs.{needs}
 use Rattle.group_names.proofs.digest.Statement.{statement}
 use Rattle.group_names.proofs.digest.Tie as tie
-use Rattle.group_names.specs.Digest.{mixed}
-use Rattle.group_names.proofs.DigestLaws.{mixed-next, mixed-end, digest-short, digest-long}
+use Rattle.group_names.specs.Digest.{mixed, spread, digestOf}
+use Rattle.group_names.proofs.DigestLaws.{mixed-next, mixed-end, mixed-short, mixed-long}
 
 abbrev Inv-loop : tie.InvT-loop
-Inv-loop x size h₀ i₀ h i = (i ≤ length x) × (mixed 8 h x i ((length x - i) / 8) ≡ mixed 8 0 x 0 (length x / 8)) × (h < 4611686018427387904)
+Inv-loop x size last h₀ i₀ h i = mixed 8 h x i ((last - i + 7) / 8) ≡ mixed 8 0 x 0 ((length x - 1) / 8)
 
 abbrev μ-loop : tie.MeasureT-loop
-μ-loop x size h₀ i₀ h i = length x - i
+μ-loop x size last h₀ i₀ h i = length x - i
 
-digest-bytes-requires : tie.Need-digest-bytes-requires Inv-loop μ-loop
-digest-bytes-requires c κs = search needs
+mix-bytes-requires : tie.Need-mix-bytes-requires Inv-loop μ-loop
+mix-bytes-requires c κs = search needs
+
+spread-out-requires : tie.Need-spread-out-requires Inv-loop μ-loop
+spread-out-requires c κs = search needs
 
 returns : tie.Need-returns Inv-loop μ-loop
+unfolding digestOf
 returns c =
-    let entry = c .before .before .before in
-    (c .digest-bytes .ensures .0 ∙ digest-short (now (entry .args .x)) (c .before .if1 .taken), c .digest-bytes .ensures .1)
+    let by-if1 = c .before .before in
+    let args = by-if1 .before .before .args in
+    (c .spread-out .ensures .0 ∙ ap spread (c .before .mix-bytes .ensures ∙ mixed-short (now (args .x)) (by-if1 .if1 .taken)), c .spread-out .ensures .1)
 
 loop-holds : tie.Need-loop-holds Inv-loop μ-loop
-loop-holds c =
-    let entry = c .before .before in
-    (omega arith, ap (λ (k : ℕ). mixed 8 0 (now (entry .args .x)) 0 (k / 8)) (omega arith), omega arith)
-
-sub-loop : tie.Need-sub-loop Inv-loop μ-loop
-sub-loop c = omega (arith, c .loop .inv .0)
+loop-holds c = ap (mixed 8 0 (now (c .before .before .args .x)) 0) (omega arith)
 
 u64-at-requires : tie.Need-u64-at-requires Inv-loop μ-loop
-u64-at-requires c κs = omega (arith, c .before .loop .inv .0)
+u64-at-requires c κs = omega arith
 
 mix-requires : tie.Need-mix-requires Inv-loop μ-loop
 mix-requires c κs = search needs
@@ -48,16 +48,11 @@ loop-less c = omega arith
 loop-again : tie.Need-loop-again Inv-loop μ-loop
 loop-again c =
     let turn = c .before .before .before in
-    let entry = turn .before .before .before in
-    let args = entry .args in
+    let x = now (turn .before .before .before .args .x) in
     let loop = turn .loop in
-    let x = now (args .x) in (
-      omega arith,
-      ap (λ (z : ℕ). mixed 8 z x (loop .i + 8) ((length x - (loop .i + 8)) / 8)) (c .mix .ensures .0)
-          ∙ sym (mixed-next 8 (loop .h) (c .before .u64-at .result) (loop .i) _ _ x (omega arith) (c .before .u64-at .ensures))
-          ∙ loop .inv .1,
-      c .mix .ensures .1,
-    )
+    ap (λ (z : ℕ). mixed 8 z x (loop .i + 8) ((length x - 8 - (loop .i + 8) + 7) / 8)) (c .mix .ensures)
+    ∙ sym (mixed-next 8 (loop .h) (c .before .u64-at .result) (loop .i) _ _ x (omega arith) (c .before .u64-at .ensures))
+    ∙ loop .inv
 
 u64-at-requires-2 : tie.Need-u64-at-requires-2 Inv-loop μ-loop
 u64-at-requires-2 c κs = omega (arith, c .before .before .if1 .left)
@@ -65,17 +60,19 @@ u64-at-requires-2 c κs = omega (arith, c .before .before .if1 .left)
 mix-requires-2 : tie.Need-mix-requires-2 Inv-loop μ-loop
 mix-requires-2 c κs = search needs
 
+spread-out-requires-2 : tie.Need-spread-out-requires-2 Inv-loop μ-loop
+spread-out-requires-2 c κs = search needs
+
 returns-2 : tie.Need-returns-2 Inv-loop μ-loop
+unfolding digestOf
 returns-2 c =
-    let turn = c .before .before .before in
+    let turn = c .before .before .before .before in
     let by-if1 = turn .before in
-    let entry = by-if1 .before .before in
-    let args = entry .args in
-    let loop = turn .loop in
-    let x = now (args .x) in (
-      c .mix2 .ensures .0 ∙ digest-long x (loop .h) (c .before .u64-at2 .result) (by-if1 .if1 .left)
-          (sym (mixed-end 8 (loop .h) (loop .i) _ x (omega arith)) ∙ loop .inv .1) (c .before .u64-at2 .ensures),
-      c .mix2 .ensures .1,
+    let x = now (by-if1 .before .before .args .x) in
+    let loop = turn .loop in (
+      c .spread-out2 .ensures .0 ∙ ap spread (c .before .mix2 .ensures ∙ mixed-long x (loop .h) (c .before .before .u64-at2 .result) (by-if1 .if1 .left)
+          (sym (mixed-end 8 (loop .h) (loop .i) _ x (omega arith)) ∙ loop .inv) (c .before .before .u64-at2 .ensures)),
+      c .spread-out2 .ensures .1,
     )
 
 pub digest-spec : {M : Type 1} → statement M
@@ -84,10 +81,10 @@ digest-spec =
     (tie.spec
     Inv-loop
     μ-loop
-    digest-bytes-requires
+    mix-bytes-requires
+    spread-out-requires
     returns
     loop-holds
-    sub-loop
     u64-at-requires
     mix-requires
     add-i
@@ -95,4 +92,5 @@ digest-spec =
     loop-again
     u64-at-requires-2
     mix-requires-2
+    spread-out-requires-2
     returns-2)

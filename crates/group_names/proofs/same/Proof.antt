@@ -1,117 +1,75 @@
--- `group_names::same` meets its contract. Both loops keep: the names are the same exactly where they are the same from byte `i` on. The measure
--- is the bytes left. Assumes nothing.
-use Prim.Native.Nat.{_-_, _≤_}
-use mathlib.Core.Path.{_≡_, refl, sym, _∙_}
-use borrow.Author.Tests.{eq-eqb, ne-eqb}
-use lib.ListN.{length, drop}
-use borrow.Author.Needs.{needs}
+-- `group_names::same` meets its contract. The loop keeps: the first `at` bytes of the names are equal. The measure is the bytes left.
+-- Assumes nothing.
+use Prim.Native.Nat.{ℕ, _-_}
+use mathlib.Core.List.{List}
+use mathlib.Core.Path.{sym, _∙_}
 use native.Mathlib.Omega.{arith}
+use lib.ListN.{length}
 use denote.Ref.{now}
+use borrow.Author.Count.{below-none}
+use borrow.Author.Tests.{eqb-true, eqb-false, not-true, not-false}
+use Rattle.fields.specs.Number.{unsigned}
 use Rattle.group_names.proofs.same.Statement.{statement}
 use Rattle.group_names.proofs.same.Tie as tie
-use Rattle.group_names.specs.Same.{sameBytes}
-use Rattle.group_names.proofs.NameLaws.{other-length, step-same, rest-same, equal-words, other-words}
+use Rattle.group_names.proofs.NameLaws.{Alike, unlike, alike-word, last-word}
 
 abbrev Inv-loop : tie.InvT-loop
-Inv-loop x y i₀ i = (i ≤ length x) × (sameBytes (drop i x) (drop i y) ≡ sameBytes x y)
+Inv-loop x y size last at₀ at = Alike x y at
 
 abbrev μ-loop : tie.MeasureT-loop
-μ-loop x y i₀ i = length x - i
+μ-loop x y size last at₀ at = length x - at
 
-abbrev Inv-loop2 : tie.InvT-loop2
-Inv-loop2 x y i₀ i = (i ≤ length x) × (sameBytes (drop i x) (drop i y) ≡ sameBytes x y)
-
-abbrev μ-loop2 : tie.MeasureT-loop2
-μ-loop2 x y i₀ i = length x - i
-
-returns : tie.Need-returns Inv-loop μ-loop Inv-loop2 μ-loop2
+returns : tie.Need-returns Inv-loop μ-loop
 returns c =
-    let entry = c .before .before .before in
-    let args = entry .args in
-    sym (other-length (now (args .x)) (now (args .y)) (c .if1 .taken))
+    let args = c .before .before .before .args in
+    unlike length (now (args .x)) (now (args .y)) (c .if1 .taken)
 
-loop-holds : tie.Need-loop-holds Inv-loop μ-loop Inv-loop2 μ-loop2
-loop-holds c = (search needs, refl)
+same-bytes-requires : tie.Need-same-bytes-requires Inv-loop μ-loop
+same-bytes-requires c κs = c .before .if1 .left
 
-sub-loop : tie.Need-sub-loop Inv-loop μ-loop Inv-loop2 μ-loop2
-sub-loop c = search needs
+returns-2 : tie.Need-returns-2 Inv-loop μ-loop
+returns-2 c = c .same-bytes .ensures
 
-u32-at-requires : tie.Need-u32-at-requires Inv-loop μ-loop Inv-loop2 μ-loop2
-u32-at-requires c κs = omega arith
+loop-holds : tie.Need-loop-holds Inv-loop μ-loop
+loop-holds c = below-none _
 
-u32-at-requires-2 : tie.Need-u32-at-requires-2 Inv-loop μ-loop Inv-loop2 μ-loop2
-u32-at-requires-2 c κs = omega arith
+same-eight-requires : tie.Need-same-eight-requires Inv-loop μ-loop
+same-eight-requires c κs = omega (arith, c .before .before .before .if1 .left)
 
-returns-2 : tie.Need-returns-2 Inv-loop μ-loop Inv-loop2 μ-loop2
-returns-2 c =
-    let by-u32-at = c .before .before in
-    let turn = by-u32-at .before .before in
-    let entry = turn .before .before .before .before in
-    let args = entry .args in
-    let loop = turn .loop in
-    sym (sym (loop .inv .1) ∙ other-words 4 (now (args .x)) (now (args .y)) (loop .i) (omega arith) (omega arith)
-    (λ e. c .if2 .taken (by-u32-at .u32-at .ensures ∙ e ∙ sym (c .before .u32-at2 .ensures))))
+returns-3 : tie.Need-returns-3 Inv-loop μ-loop
+returns-3 c =
+    let turn = c .before .before .before in
+    let args = turn .before .before .before .before .before .args in
+    unlike (λ (z : List ℕ). unsigned 8 z (turn .loop .at)) (now (args .x)) (now (args .y))
+    (eqb-false _ _ (sym (c .before .same-eight .ensures) ∙ not-true _ (c .if3 .taken)))
 
-add-i : tie.Need-add-i Inv-loop μ-loop Inv-loop2 μ-loop2
-add-i c = omega arith
+add-at : tie.Need-add-at Inv-loop μ-loop
+add-at c = omega arith
 
-loop-less : tie.Need-loop-less Inv-loop μ-loop Inv-loop2 μ-loop2
+loop-less : tie.Need-loop-less Inv-loop μ-loop
 loop-less c = omega arith
 
-loop-again : tie.Need-loop-again Inv-loop μ-loop Inv-loop2 μ-loop2
+loop-again : tie.Need-loop-again Inv-loop μ-loop
 loop-again c =
-    let by-u32-at = c .before .before in
-    let turn = by-u32-at .before .before in
-    let by-shared-slice-known2 = turn .before .before in
-    let by-shared-slice-known = by-shared-slice-known2 .before in
-    let entry = by-shared-slice-known .before in
-    let args = entry .args in
-    let loop = turn .loop in (
-      omega arith,
-      sym (equal-words 4 (now (args .x)) (now (args .y)) (loop .i) (omega arith) (omega arith)
-          (λ k. omega (arith, by-shared-slice-known .shared-slice-known .given k))
-          (λ k. omega (arith, by-shared-slice-known2 .shared-slice-known2 .given k))
-          (sym (by-u32-at .u32-at .ensures) ∙ c .if2 .left ∙ c .before .u32-at2 .ensures)) ∙ loop .inv .1,
-    )
+    let turn = c .before .before .before in
+    let known2 = turn .before .before .before in
+    let args = known2 .before .before .args in
+    alike-word (now (args .x)) (now (args .y)) (λ k. omega (arith, known2 .before .shared-slice-known .given k))
+    (λ k. omega (arith, known2 .shared-slice-known2 .given k)) 8 (turn .loop .at) (turn .loop .at) (omega arith) (turn .loop .inv)
+    (eqb-true _ _ (sym (c .before .same-eight .ensures) ∙ not-false _ (c .if3 .left)))
 
-loop2-holds : tie.Need-loop2-holds Inv-loop μ-loop Inv-loop2 μ-loop2
-loop2-holds c = (c .before .loop .inv .0, c .before .loop .inv .1)
+same-eight-requires-2 : tie.Need-same-eight-requires-2 Inv-loop μ-loop
+same-eight-requires-2 c κs = omega (arith, c .before .before .before .if1 .left)
 
-shared-slice-read-if3 : tie.Need-shared-slice-read-if3 Inv-loop μ-loop Inv-loop2 μ-loop2
-shared-slice-read-if3 c = search needs
-
-shared-slice-read-if3-2 : tie.Need-shared-slice-read-if3-2 Inv-loop μ-loop Inv-loop2 μ-loop2
-shared-slice-read-if3-2 c = omega arith
-
-returns-3 : tie.Need-returns-3 Inv-loop μ-loop Inv-loop2 μ-loop2
-returns-3 c =
-    let turn = c .before .before .before .before in
-    let entry = turn .before .before .before .before .before .before in
-    let args = entry .args in
-    sym (sym (turn .loop2 .inv .1) ∙ step-same (now (args .x)) (now (args .y)) (turn .loop2 .i) (omega arith) (omega arith)
-    ∙ rw (ne-eqb _ _ (c .if3 .taken)))
-
-add-i-2 : tie.Need-add-i-2 Inv-loop μ-loop Inv-loop2 μ-loop2
-add-i-2 c = search needs
-
-loop2-less : tie.Need-loop2-less Inv-loop μ-loop Inv-loop2 μ-loop2
-loop2-less c = omega arith
-
-loop2-again : tie.Need-loop2-again Inv-loop μ-loop Inv-loop2 μ-loop2
-loop2-again c =
-    let turn = c .before .before .before .before in
-    let entry = turn .before .before .before .before .before .before in
-    let args = entry .args in (
-      omega arith,
-      sym (rw (eq-eqb _ _ (c .if3 .left)) at (step-same (now (args .x)) (now (args .y)) (turn .loop2 .i) (omega arith) (omega arith)))
-          ∙ turn .loop2 .inv .1,
-    )
-
-returns-4 : tie.Need-returns-4 Inv-loop μ-loop Inv-loop2 μ-loop2
+returns-4 : tie.Need-returns-4 Inv-loop μ-loop
 returns-4 c =
-    let entry = c .before .before .before .before .before .before .before in
-    let args = entry .args in
-    rest-same (now (args .x)) (now (args .y)) (c .before .loop2 .i) (omega arith) (omega arith) ∙ c .before .loop2 .inv .1
+    let turn = c .before .before in
+    let known2 = turn .before .before .before in
+    let args = known2 .before .before .args in
+    c .same-eight2 .ensures
+    ∙ last-word (now (args .x)) (now (args .y)) (λ k. omega (arith, known2 .before .shared-slice-known .given k))
+    (λ k. omega (arith, known2 .shared-slice-known2 .given k)) 8 _ (turn .loop .at) (turn .before .before .if1 .left) (omega arith) (omega arith)
+    (turn .loop .inv)
 
 pub same-spec : {M : Type 1} → statement M
 same-spec =
@@ -119,22 +77,14 @@ same-spec =
     (tie.spec
     Inv-loop
     μ-loop
-    Inv-loop2
-    μ-loop2
     returns
-    loop-holds
-    sub-loop
-    u32-at-requires
-    u32-at-requires-2
+    same-bytes-requires
     returns-2
-    add-i
+    loop-holds
+    same-eight-requires
+    returns-3
+    add-at
     loop-less
     loop-again
-    loop2-holds
-    shared-slice-read-if3
-    shared-slice-read-if3-2
-    returns-3
-    add-i-2
-    loop2-less
-    loop2-again
+    same-eight-requires-2
     returns-4)
