@@ -3,22 +3,24 @@ use Prim.Native.Nat.{ℕ, zero, suc, _+_, _-_, _/_, _%_, _<_, _≤_}
 use mathlib.Core.Path.{_≡_, refl, sym, _∙_, ap, ap₂}
 use mathlib.Core.List.{List}
 use mathlib.Core.Bool.{Bool, true, false, cond, _&&_}
+use mathlib.Core.Logic.{⊎-elim}
 use native.Mathlib.Numerals.{add-one}
 use native.Mathlib.Nat.{lt-irrefl}
 use native.Mathlib.Omega.{arith}
-use borrow.Author.Tests.{eqb-true, eqb-false}
+use borrow.Author.Tests.{eqb-true, eqb-false, eq-eqb}
 use borrow.Author.Count.{below-more, below-none}
 use lib.Dec.{eqb}
 use lib.ListN.{length, getD, set, length-set}
 use lib.Seq.{getD-set-same, getD-set-other}
 use Rattle.fields.specs.Layout.{nameIn}
+use Rattle.fields.proofs.Arith.{lt-or-le}
 use Rattle.group_frames.specs.Frame.{recordOf}
 use Rattle.group_mates.specs.Register.{roleIn, roleAt, nameAt, fits, holder}
 use Rattle.group_mates.specs.Table.{keyIn, Keyed, chainOf, lastIn, Chained}
 use Rattle.group_mates.proofs.KeyLaws.{role-small, holder-no}
 use Rattle.group_names.specs.Same.{sameBytes}
 use Rattle.group_names.specs.Digest.{digestOf}
-use Rattle.group_names.proofs.NameLaws.{and-true, same-true}
+use Rattle.group_names.proofs.NameLaws.{and-true, same-true, same-refl}
 
 pub last-le : (key : List ℕ) (h n : ℕ) → lastIn key h n ≤ n
 unfolding lastIn
@@ -38,6 +40,19 @@ last-of key h (suc n) j e = go (last-of key h n j) (eqb (chainOf (getD key n 0))
     go : (lastIn key h n ≡ suc j → chainOf (getD key j 0) ≡ h) → (t : Bool) → eqb (chainOf (getD key n 0)) h ≡ t → cond t (suc n) (lastIn key h n) ≡ suc j → chainOf (getD key j 0) ≡ h
     go up true f g = let z : j ≡ n = omega arith in ap (λ (k : ℕ). chainOf (getD key k 0)) z ∙ eqb-true _ _ f
     go up false f g = up g
+
+-- a record's chain has a record at it or behind it
+pub last-past : (key : List ℕ) (i n : ℕ) → i < n → i < lastIn key (chainOf (getD key i 0)) n
+unfolding lastIn
+last-past key i zero l = absurd (omega arith)
+last-past key i (suc n) l = go (last-past key i n) (eqb (chainOf (getD key n 0)) (chainOf (getD key i 0))) refl
+  where
+    go : (i < n → i < lastIn key (chainOf (getD key i 0)) n) → (t : Bool) → eqb (chainOf (getD key n 0)) (chainOf (getD key i 0)) ≡ t → i < cond t (suc n) (lastIn key (chainOf (getD key i 0)) n)
+    go up true f = l
+    go up false f =
+        ⊎-elim up
+        (λ (g : n ≤ i). let z : n ≡ i = omega arith in absurd (eqb-false _ _ f (ap (λ (k : ℕ). chainOf (getD key k 0)) z)))
+        (lt-or-le i n)
 
 -- records that fit are of one chain
 pub fits-chain : (x y : List ℕ) (kx ky q : ℕ) → kx ≡ keyIn x → ky ≡ keyIn y → (eqb (roleIn x) q && sameBytes (nameIn x) (nameIn y)) ≡ true → chainOf kx ≡ chainOf ky
@@ -118,32 +133,60 @@ linked-next key head next n k h c l r e b = record {
 pub linked-all : (key head next : List ℕ) (n k : ℕ) → Linked key head next n k → k ≡ n → Chained key head next n
 linked-all key head next n k c e = let d = rw e at c in record { wide = d .wide; long = d .long; heads = d .heads; links = d .links }
 
-pub record Walking (s key : List ℕ) (n q i c : ℕ) : Type 0 where
+-- where the search for role q and the name of record i may end: who has the registration is there or behind, and no step leads past it
+pub record Ending (s key : List ℕ) (q i end : ℕ) : Type 0 where
+  pub own : holder (roleAt s) (nameAt s) q (nameAt s i) end ≡ end
+  pub met : (m : ℕ) → end ≤ m → end ≤ lastIn key (chainOf (getD key i 0)) m
+
+-- at the end of the chain
+pub ending-none : (s key : List ℕ) (q i : ℕ) → Ending s key q i 0
+unfolding holder
+ending-none s key q i = record { own = refl; met = λ m l. omega arith }
+
+-- at record i itself, where that is of the role
+pub ending-own : (s key : List ℕ) (q i : ℕ) → roleAt s i ≡ q → Ending s key q i (i + 1)
+unfolding holder
+ending-own s key q i e =
+    let f : fits (roleAt s) (nameAt s) q (nameAt s i) i ≡ true = rw (eq-eqb (roleAt s i) q e) (same-refl (nameAt s i)) in
+    record {
+      own = rw add-one (ap (λ (t : Bool). cond t (suc i) (holder (roleAt s) (nameAt s) q (nameAt s i) i)) f);
+      met = λ m l. omega (arith, last-past key i m (omega arith));
+    }
+
+-- a search that came down to c, and is to end at `end`
+pub record Walking (s key : List ℕ) (n q i end c : ℕ) : Type 0 where
   pub low : c ≤ n
+  pub over : end ≤ c
   pub chain : (j : ℕ) → c ≡ suc j → chainOf (getD key j 0) ≡ chainOf (getD key i 0)
   pub left : holder (roleAt s) (nameAt s) q (nameAt s i) c ≡ holder (roleAt s) (nameAt s) q (nameAt s i) n
 
-module _ (s key : List ℕ) (n : ℕ) (u : Keyed s key n) (q i : ℕ) (below : i < n) where
-  pub walking-start : (c : ℕ) → c ≡ lastIn key (chainOf (getD key i 0)) n → Walking s key n q i c
-  walking-start c e = record {
+module _ (s key : List ℕ) (n : ℕ) (u : Keyed s key n) (q i : ℕ) (below : i < n) (end : ℕ) (ends : Ending s key q i end) where
+  pub walking-start : (c : ℕ) → end ≤ n → c ≡ lastIn key (chainOf (getD key i 0)) n → Walking s key n q i end c
+  walking-start c l e = record {
     low = omega (arith, e, last-le key (chainOf (getD key i 0)) n);
+    over = rw e (ends .met n l);
     chain = λ j f. last-of key (chainOf (getD key i 0)) n j (sym e ∙ f);
     left = ap (holder (roleAt s) (nameAt s) q (nameAt s i)) e ∙ passed s key n u q i below n (omega arith);
   }
 
-  module _ (c : ℕ) (w : Walking s key n q i c) (some : c ≡ 0 → ⊥) where
-    pub is-suc : c ≡ suc (c - 1)
-    is-suc = omega arith
+  -- the search is over
+  pub walking-end : (c : ℕ) → Walking s key n q i end c → c ≡ end → c ≡ holder (roleAt s) (nameAt s) q (nameAt s i) n
+  walking-end c w e = e ∙ sym (ends .own) ∙ ap (holder (roleAt s) (nameAt s) q (nameAt s i)) (sym e) ∙ w .left
 
-    pub walking-next : (r : Bool) (d : ℕ) → r ≡ fits (roleAt s) (nameAt s) q (nameAt s i) (c - 1) → r ≡ false → d ≡ lastIn key (chainOf (getD key (c - 1) 0)) (c - 1) → Walking s key n q i d
+  module _ (c : ℕ) (w : Walking s key n q i end c) (some : c ≡ end → ⊥) where
+    is-suc : c ≡ suc (c - 1)
+    is-suc = omega (arith, w .over)
+
+    pub walking-next : (r : Bool) (d : ℕ) → r ≡ fits (roleAt s) (nameAt s) q (nameAt s i) (c - 1) → r ≡ false → d ≡ lastIn key (chainOf (getD key (c - 1) 0)) (c - 1) → Walking s key n q i end d
     walking-next r d e f g =
         let b : chainOf (getD key (c - 1) 0) ≡ chainOf (getD key i 0) = w .chain (c - 1) is-suc in
         let g′ : d ≡ lastIn key (chainOf (getD key i 0)) (c - 1) = g ∙ ap (λ (z : ℕ). lastIn key z (c - 1)) b in
         record {
           low = omega (arith, g, last-le key (chainOf (getD key (c - 1) 0)) (c - 1), w .low);
+          over = rw g′ (ends .met (c - 1) (omega (arith, w .over)));
           chain = λ j h. last-of key (chainOf (getD key i 0)) (c - 1) j (sym g′ ∙ h);
           left = ap (holder (roleAt s) (nameAt s) q (nameAt s i)) g′
               ∙ passed s key n u q i below (c - 1) (omega (arith, w .low))
-              ∙ holder-no (roleAt s) (nameAt s) q (nameAt s i) c (omega arith) r e f
+              ∙ holder-no (roleAt s) (nameAt s) q (nameAt s i) c (omega (arith, w .over)) r e f
               ∙ w .left;
         }

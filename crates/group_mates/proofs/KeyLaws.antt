@@ -7,13 +7,15 @@ use native.Mathlib.Numerals.{add-one}
 use native.Mathlib.Omega.{arith}
 use borrow.Author.Tests.{eqb-true, eq-eqb, ne-eqb}
 use lib.Dec.{eqb}
+use lib.ListN.{getD}
 use Rattle.fields.specs.Flag.{hasBit, firstSegment, lastSegment, secondary, supplementary}
 use Rattle.fields.specs.Layout.{header, nameIn}
-use Rattle.group_mates.specs.Register.{roleBy, roleIn, nameAt, fits, holder, mateOf}
-use Rattle.group_mates.specs.Table.{keyIn}
+use Rattle.group_frames.specs.Frame.{recordOf}
+use Rattle.group_mates.specs.Register.{roleBy, roleIn, roleAt, fits, holder, mateOf}
+use Rattle.group_mates.specs.Table.{keyIn, Keyed}
 use Rattle.group_names.specs.Same.{sameBytes}
 use Rattle.group_names.specs.Digest.{digestOf}
-use Rattle.group_names.proofs.NameLaws.{same-true, same-refl}
+use Rattle.group_names.proofs.NameLaws.{same-true}
 
 cond-small : (t : Bool) (a b : ℕ) → a < 3 → b < 3 → cond t a b < 3
 cond-small true a b h k = h
@@ -43,10 +45,6 @@ module _ (x y : List ℕ) (kx ky q : ℕ) (ex : kx ≡ keyIn x) (ey : ky ≡ key
   unfolding keyIn
   fits-name r h e = rw (eq-eqb (roleIn x) q (omega (arith, ex, ey, h, role-small x))) e
 
--- a record has its own name
-pub own-name : (s : List ℕ) (i j : ℕ) → j ≡ i → true ≡ sameBytes (nameAt s j) (nameAt s i)
-own-name s i j e = rw e (sym (same-refl (nameAt s i)))
-
 module _ (P : ℕ → ℕ) (N : ℕ → List ℕ) (q : ℕ) (x : List ℕ) (k : ℕ) (h : 0 < k) (r : Bool) (e : r ≡ fits P N q x (k - 1)) where
   up : k ≡ suc (k - 1)
   up = omega arith
@@ -74,9 +72,13 @@ holder-le P N q x (suc n) = go (holder-le P N q x n) (fits P N q x n)
     go h true = omega arith
     go h false = omega arith
 
-pub key-role : (r : List ℕ) (d : ℕ) → d ≡ keyIn r → d % 4 ≡ roleIn r
+key-role : (r : List ℕ) (d : ℕ) → d ≡ keyIn r → d % 4 ≡ roleIn r
 unfolding keyIn
 key-role r d e = omega (arith, e, role-small r)
+
+-- the role that a record's key has
+pub role-of-key : (s key : List ℕ) (n i : ℕ) → Keyed s key n → i < n → getD key i 0 % 4 ≡ roleAt s i
+role-of-key s key n i u l = key-role (recordOf s i) (getD key i 0) (u .keys i l)
 
 module _ (P : ℕ → ℕ) (N : ℕ → List ℕ) (n i : ℕ) where
   pub mate-none : (P i ≡ 1 → ⊥) → 0 ≡ mateOf P N n i

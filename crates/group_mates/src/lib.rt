@@ -109,7 +109,7 @@ fn link(key: &[u64], n: usize, head: &mut [usize], next: &mut [usize])
 }
 
 // Whether record j is of role q and of the name of record i. Names are compared only where the keys
-// are equal, and no name with itself.
+// are equal.
 fn fits_at(s: &[u8], begins: &[usize], key: &[u64], n: usize, q: u64, i: usize, j: usize) -> bool
     requires { ⌜ FrameTable (now s) (now begins) n × Keyed (now s) (now key) n × (i < n) × (j < n) × (q < 4) ⌝ }
     ensures { λ r. ⌜ r ≡ fits (roleAt (now (s .entry))) (nameAt (now (s .entry))) q (nameAt (now (s .entry)) i) j ⌝ }
@@ -117,15 +117,13 @@ fn fits_at(s: &[u8], begins: &[usize], key: &[u64], n: usize, q: u64, i: usize, 
     if key[j] != key[i] / 4 * 4 + q {
         return false;
     }
-    if j == i {
-        return true;
-    }
     let other = group_frames::record_at(s, begins, j);
     same_name(other, group_frames::record_at(s, begins, i))
 }
 
 // One more than the index of the record that has the registration of role q and the name of
-// record i; 0 where none has.
+// record i, a first; 0 where none has. A first is looked for down to record i, which is one, and is
+// not compared with itself.
 fn holder_of(
     s: &[u8],
     begins: &[usize],
@@ -136,19 +134,20 @@ fn holder_of(
     q: u64,
     i: usize,
 ) -> usize
-    requires { ⌜ FrameTable (now s) (now begins) n × Keyed (now s) (now key) n × Chained (now key) (now head) (now next) n × (i < n) × (q < 4) ⌝ }
+    requires { ⌜ FrameTable (now s) (now begins) n × Keyed (now s) (now key) n × Chained (now key) (now head) (now next) n × (i < n) × (q < 4) × (roleAt (now s) i ≡ 1) ⌝ }
     ensures { λ r. ⌜ (r ≡ holder (roleAt (now (s .entry))) (nameAt (now (s .entry))) q (nameAt (now (s .entry)) i) n) × (r ≤ n) ⌝ }
 {
     let h = chain_of(key[i]);
+    let end = if q == FIRST { i + 1 } else { 0 };
     let mut c = head[h];
-    while c != 0 {
+    while c != end {
         let j = c - 1;
         if fits_at(s, begins, key, n, q, i, j) {
             return c;
         }
         c = next[j];
     }
-    0
+    c
 }
 
 // One more than the index of the mate of record i, where that is a registered first with a mate; else 0.

@@ -1,7 +1,6 @@
 -- `group_mates::fits_at` meets its contract. Assumes nothing.
-use mathlib.Core.Bool.{true}
 use lib.ListN.{getD}
-use Rattle.group_mates.proofs.KeyLaws.{not-fits, fits-name, own-name}
+use Rattle.group_mates.proofs.KeyLaws.{not-fits, fits-name}
 use native.Mathlib.Omega.{arith}
 use denote.Ref.{now}
 use borrow.Author.Needs.{needs}
@@ -40,34 +39,26 @@ returns c =
     not-fits _ _ (getD key (args .j) 0) (getD key (args .i) 0) (args .q)
     (entry .pre .1 .keys (args .j) (entry .pre .3)) (entry .pre .1 .keys (args .i) (entry .pre .2)) (entry .pre .4) (c .if1 .taken)
 
-returns-2 : tie.Need-returns-2
-returns-2 c =
-    let entry = c .before .before .before .before .before .before .before in
-    let args = entry .args in
-    let key = now (args .key) in
-    fits-name _ _ (getD key (args .j) 0) (getD key (args .i) 0) (args .q)
-    (entry .pre .1 .keys (args .j) (entry .pre .3)) (entry .pre .1 .keys (args .i) (entry .pre .2)) (entry .pre .4) true (c .before .if1 .left) (own-name (now (args .s)) (args .i) (args .j) (c .if2 .taken))
-
 record-at-requires : tie.Need-record-at-requires
 record-at-requires c κs =
-    let entry = c .before .before .before .before .before .before .before in
+    let entry = c .before .before .before .before .before .before in
     (entry .args .n, entry .pre .0, entry .pre .3)
 
 record-at-requires-2 : tie.Need-record-at-requires-2
 record-at-requires-2 c κs =
-    let entry = c .before .before .before .before .before .before .before .before in
+    let entry = c .before .before .before .before .before .before .before in
     (entry .args .n, entry .pre .0, entry .pre .2)
 
 same-name-requires : tie.Need-same-name-requires
 same-name-requires c κs =
-    let entry = c .before .before .before .before .before .before .before .before .before in
+    let entry = c .before .before .before .before .before .before .before .before in
     let args = entry .args in
     (rw (c .before .record-at .ensures) (entry .pre .0 .sound (args .j) (entry .pre .3)), rw (c .record-at2 .ensures) (entry .pre .0 .sound (args .i) (entry .pre .2)))
 
-returns-3 : tie.Need-returns-3
-returns-3 c =
+returns-2 : tie.Need-returns-2
+returns-2 c =
     let by-record-at = c .before .before in
-    let by-if1 = by-record-at .before .before in
+    let by-if1 = by-record-at .before in
     let entry = by-if1 .before .before .before .before .before .before in
     let args = entry .args in
     let key = now (args .key) in
@@ -86,8 +77,7 @@ fits-at-spec =
     mul-if1-3
     add-if1
     returns
-    returns-2
     record-at-requires
     record-at-requires-2
     same-name-requires
-    returns-3)
+    returns-2)
