@@ -7,7 +7,7 @@ use native.Mathlib.Omega.{arith}
 use lib.Dec.{ltb}
 use lib.ListN.{length, take}
 use lib.Seq.{getD-take}
-use borrow.Author.Tests.{ltb-false}
+use borrow.Author.Tests.{ltb-false, le-ltb}
 use Rattle.refusal.specs.declared.Refusal.{Refusal}
 use Rattle.fields.specs.Number.{unsigned}
 use Rattle.fields.specs.Layout.{Header, header, basesAt, tagsAt, layoutOf}
@@ -53,6 +53,13 @@ good-sound s p y e =
       allowed = ltb-false _ _ (t .long);
       after = rw (t .layout) (omega arith);
     }
+
+-- and a record that holds it passes, at any place
+pub sound-good : (s : List ℕ) (y : Layout) → Sound s y → (p : ℕ) → checkOf s p ≡ Good y
+unfolding checkOf
+sound-good s y h p =
+    let n : tagsAt s ≤ length s = (rw (h .layout) at (h .lies)) .qualities in
+    simp (le-ltb _ _ (h .fixed), le-ltb _ _ (h .allowed), le-ltb (length s) (basesAt s) (omega arith), le-ltb _ _ n, h .layout)
 
 -- whether a record passes does not depend on its place
 pub good-any-place : (s : List ℕ) (p : ℕ) (y : Layout) → checkOf s p ≡ Good y → (q : ℕ) → checkOf s q ≡ Good y

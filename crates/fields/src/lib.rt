@@ -6,7 +6,7 @@ ghost use lib.ListN.{length};
 ghost use Rattle.fields.specs.Number.{unsigned, put, signed32};
 ghost use Rattle.fields.specs.Flag.{hasBit, unmapped, firstSegment, lastSegment, secondary, supplementary};
 ghost use Rattle.fields.specs.Position.{positionOf, sameId};
-ghost use Rattle.fields.specs.Layout.{header, nameIn};
+ghost use Rattle.fields.specs.Layout.{header, nameIn, layoutOf};
 ghost use Rattle.fields.specs.Check.{checkOf};
 
 // How many bytes a record has before its name.
@@ -258,6 +258,23 @@ pub struct Layout {
     pub count: usize,
 }
 
+// Where the parts of a record begin by its header, whether or not they lie within it.
+pub fn layout_of(s: &[u8]) -> Layout
+    requires { ⌜ 32 ≤ length (now s) ⌝ }
+    ensures { λ r. ⌜ (r ≡ layoutOf (now (s .entry))) × (r .qualities + r .count < 8589934592) ⌝ }
+{
+    let operations = FIXED + l_read_name(s) as usize;
+    let bases = operations + 4 * (n_cigar_op(s) as usize);
+    let count = l_seq(s) as usize;
+    let qualities = bases + (count + 1) / 2;
+    Layout {
+        operations,
+        bases,
+        qualities,
+        count,
+    }
+}
+
 // What the check of a record finds: where its parts lie, or why it is refused.
 pub enum Checked {
     Good(Layout),
@@ -274,20 +291,12 @@ pub fn check_record(s: &[u8], place: u16) -> Checked
     if LONGEST < s.len() {
         return Checked::Bad(Refusal::RecordLong(place));
     }
-    let operations = FIXED + l_read_name(s) as usize;
-    let bases = operations + 4 * (n_cigar_op(s) as usize);
-    if s.len() < bases {
+    let y = layout_of(s);
+    if s.len() < y.bases {
         return Checked::Bad(Refusal::NameAndOperations(place));
     }
-    let count = l_seq(s) as usize;
-    let qualities = bases + (count + 1) / 2;
-    if s.len() < qualities + count {
+    if s.len() < y.qualities + y.count {
         return Checked::Bad(Refusal::BasesAndQualities(place));
     }
-    Checked::Good(Layout {
-        operations,
-        bases,
-        qualities,
-        count,
-    })
+    Checked::Good(y)
 }
