@@ -39,7 +39,7 @@ use Rattle.pair_judgement.specs.Judgement.{onUses, onSpan, onPosition, s
 use Rattle.pair_judgement.specs.Ready.{Ready, TreatedTo}
 
 -- ---- each step was passed
-on-uses : (o : Operations) (f : ℕ → Span) (s : Extent) → onUses o f ≡ Spans.Covers s → (n : ℕ) × ((o ≡ Ops.Uses n) × (f n ≡ Spans.Covers s))
+pub on-uses : (o : Operations) (f : ℕ → Span) (s : Extent) → onUses o f ≡ Spans.Covers s → (n : ℕ) × ((o ≡ Ops.Uses n) × (f n ≡ Spans.Covers s))
 on-uses (Ops.Uses n) f s e = (n, (refl, e))
 on-uses (Ops.Refused r) f s e = let z : _≡_ {A = ℕ} 0 1 = cc in absurd (omega arith)
 

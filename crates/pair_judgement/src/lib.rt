@@ -10,6 +10,7 @@ use pair_merge::Met;
 use positions::Job;
 use refusal::Refusal;
 use stats::CorrectionStats;
+use strategy::Strategies;
 ghost use mathlib.Core.Path.{_≡_};
 ghost use Prim.Native.Nat.{ℕ, _≤_};
 ghost use lib.ListN.{length};
@@ -17,7 +18,7 @@ ghost use Rattle.fields.specs.Sound.{Sound};
 ghost use Rattle.stats.specs.Room.{Room};
 ghost use Rattle.positions.specs.Step.{state};
 ghost use Rattle.pair_judgement.specs.Judgement.{onUses, onSpan, spanIn, judgedOf};
-ghost use Rattle.pair_judgement.specs.Ready.{Ready, TreatedTo};
+ghost use Rattle.pair_judgement.specs.Ready.{Ready, TreatedTo, Cleared, TreatedAt};
 ghost use Rattle.pair_judgement.specs.Where.{whereOf};
 
 // Two sound records judged: refused, apart for what their headers say, or both placed on one
@@ -154,4 +155,32 @@ pub fn treat(
         return none_met(g);
     }
     pair_merge::merge(w, first, second, p.start, q.start, g)
+}
+
+// Two records that were judged and not refused, treated where they stand and not judged again: from
+// their headers and the operations that a shared position needs.
+pub fn treat_judged(w: Strategies, first: &mut [u8], second: &mut [u8], g: CorrectionStats) -> Met
+    requires { ⌜ Cleared (now first) (now second) × Room g 131072 ⌝ }
+    ensures { λ r. ⌜ TreatedAt (whereOf (now (first .entry)) (now (second .entry))) w (state (now (first .entry)) (now (second .entry)) g) (state (now (first .exit)) (now (second .exit)) (r .stats)) (r .shared) ⌝ }
+{
+    let at = locate(first, second);
+    let Where::On(pos1, pos2) = at else {
+        return none_met(g);
+    };
+    let y = fields::layout_of(first);
+    if y.count == 0 {
+        return none_met(g);
+    }
+    let z = fields::layout_of(second);
+    if z.count == 0 {
+        return none_met(g);
+    }
+    let job = Job {
+        strategies: w,
+        first: y,
+        second: z,
+    };
+    let start1 = RefPos(pos1 as usize + 1);
+    let start2 = RefPos(pos2 as usize + 1);
+    pair_merge::merge(job, first, second, start1, start2, g)
 }
