@@ -1,4 +1,5 @@
 pub mod CallLaws
+pub mod ClearedLaws
 pub mod PromiseLaws
 pub mod MeetLaws
 pub mod Worked
