@@ -6,9 +6,9 @@ use native.Mathlib.Numerals.{add-one}
 use native.Mathlib.Omega.{arith}
 use Rattle.refusal.specs.declared.Refusal.{Refusal}
 use Rattle.fields.specs.declared.Layout.{Layout}
-use Rattle.fields.specs.declared.Checked.{Checked}
-use Rattle.fields.specs.declared.Checked.the-variants.{Good, Bad}
-use Rattle.fields.specs.Check.{checkOf}
+use Rattle.fields.specs.Layout.{layoutOf}
+use Rattle.fields.specs.Sound.{Sound}
+use Rattle.fields.proofs.CheckLaws.{sound-good}
 use Rattle.cigar.specs.declared.Extent.{Extent}
 use Rattle.cigar.specs.declared.Span.{Span}
 use Rattle.cigar.specs.declared.Span.the-variants as Spans
@@ -22,7 +22,7 @@ use Rattle.group_mates.proofs.OnceLaws.{mate-below}
 use Rattle.group_verdicts.specs.declared.Verdict.{Verdict}
 use Rattle.group_verdicts.specs.declared.Verdict.the-variants.{Passed, Refused}
 use Rattle.group_verdicts.specs.Judged.{onVerdict, judgeBy}
-use Rattle.group_verdicts.specs.Indexed.{ofChecked, ofJudged, indexedOf}
+use Rattle.group_verdicts.specs.Indexed.{ofJudged, indexedOf}
 
 -- ---- what two records cover
 pub first-refused : (u v u′ : Span) (r : Refusal) → u ≡ u′ → u ≡ Spans.Refused r → ofJudged (onSpan u (λ s. Judge.Apart)) ≡ ofJudged (onSpan u′ (λ s. onSpan v (λ t. Judge.Both s t)))
@@ -36,20 +36,14 @@ second-decides u v u′ v′ s e f g = rw (sym e ∙ f, sym g) (go v)
     go (Spans.Refused r) = refl
 
 -- ---- one pair
-module _ (a b : List ℕ) (i j : ℕ) where
-  pub first-bad : (k : Checked) (r : Refusal) → k ≡ checkOf a i → k ≡ Bad r → ofChecked k ≡ indexedOf a b i j
-  unfolding indexedOf
-  first-bad k r e f = ap ofChecked f ∙ rw (sym e ∙ f)
+-- a sound record, by its layout as it was read
+pub read-sound : (s : List ℕ) (y : Layout) → Sound s (layoutOf s) → y ≡ layoutOf s → Sound s y
+read-sound s y h e = rw e h
 
-  module _ (y : Layout) (good : checkOf a i ≡ Good y) where
-    pub second-bad : (k : Checked) (r : Refusal) → k ≡ checkOf b j → k ≡ Bad r → ofChecked k ≡ indexedOf a b i j
-    unfolding indexedOf
-    second-bad k r e f = ap ofChecked f ∙ rw (good, sym e ∙ f)
-
-    pub both-placed : (z : Layout) (k k′ : Where) → checkOf b j ≡ Good z → k ≡ whereOf a b → k ≡ k′
-        → ofJudged (onWhere k′ (λ p q. onSpan (spanIn y a p i) (λ s. onSpan (spanIn z b q j) (λ t. Judge.Both s t)))) ≡ indexedOf a b i j
-    unfolding indexedOf
-    both-placed z k k′ g e f = ap ofJudged (judged-as y z a b i j k e k′ f) ∙ rw (good, g)
+pub both-placed : (a b : List ℕ) (i j : ℕ) (y z : Layout) → Sound a y → Sound b z → (k k′ : Where) → k ≡ whereOf a b → k ≡ k′
+    → ofJudged (onWhere k′ (λ p q. onSpan (spanIn y a p i) (λ s. onSpan (spanIn z b q j) (λ t. Judge.Both s t)))) ≡ indexedOf a b i j
+unfolding indexedOf
+both-placed a b i j y z h l k k′ e f = ap ofJudged (judged-as y z a b i j k e k′ f) ∙ rw (sound-good a y h i, sound-good b z l j)
 
 -- ---- the pairs from record i on, by the mate of record i
 pub pairs-turn : (f : ℕ → ℕ) (n i m : ℕ) → i < n → m ≡ f i → pairsFrom f i (n - i) ≡ mateCons i m (pairsFrom f (i + 1) (n - (i + 1)))

@@ -16,10 +16,6 @@ abbrev pub onSound : Checked → (Layout → Verdict) → Verdict
 onSound (Good y) rest = rest y
 onSound (Bad r) rest = Refused r
 
-abbrev pub ofChecked : Checked → Verdict
-ofChecked (Good y) = Passed
-ofChecked (Bad r) = Refused r
-
 abbrev pub ofJudged : Judged → Verdict
 ofJudged (Judge.Refused r) = Refused r
 ofJudged Judge.Apart = Passed

@@ -1,7 +1,6 @@
 // The pairs of a group judged, each from the bytes given, before any is written.
 use cigar::Extent;
 use cigar::Span;
-use fields::Checked;
 use fields::Layout;
 use pair_judgement::Judged;
 use pair_judgement::Where;
@@ -9,28 +8,19 @@ use refusal::Refusal;
 ghost use mathlib.Core.Path.{_≡_};
 ghost use Prim.Native.Nat.{_<_};
 ghost use lib.ListN.{length};
+ghost use Rattle.fields.specs.Layout.{layoutOf};
 ghost use Rattle.fields.specs.Sound.{Sound};
 ghost use Rattle.pair_judgement.specs.Judgement.{onSpan, spanIn};
 ghost use Rattle.group_frames.specs.Table.{FrameTable};
 ghost use Rattle.group_mates.specs.Register.{pairsOf};
 ghost use Rattle.group_mates.specs.Table.{Mated};
-ghost use Rattle.group_verdicts.specs.Indexed.{ofChecked, ofJudged, indexedOf, indexedAt};
+ghost use Rattle.group_verdicts.specs.Indexed.{ofJudged, indexedOf, indexedAt};
 ghost use Rattle.group_verdicts.specs.Judged.{judgeBy};
 
 // Whether pairs may be treated, or the refusal of the first that may not.
 pub enum Verdict {
     Passed,
     Refused(Refusal),
-}
-
-// A record that is not good, as the verdict on its pair.
-fn unchecked(c: Checked) -> Verdict
-    ensures { λ r. ⌜ r ≡ ofChecked c ⌝ }
-{
-    match c {
-        Checked::Good(_) => Verdict::Passed,
-        Checked::Bad(r) => Verdict::Refused(r),
-    }
 }
 
 // What one record covers, as the verdict on its pair.
@@ -63,22 +53,17 @@ fn spans_of(first: &[u8], second: &[u8], a: Side, b: Side) -> Verdict
     spanned(span2)
 }
 
-// Two records judged as a pair; a refusal names the index of the record at fault.
+// Two sound records judged as a pair; a refusal names the index of the record at fault.
 fn judge_pair(first: &[u8], second: &[u8], i: u16, j: u16) -> Verdict
+    requires { ⌜ Sound (now first) (layoutOf (now first)) × Sound (now second) (layoutOf (now second)) ⌝ }
     ensures { λ r. ⌜ r ≡ indexedOf (now (first .entry)) (now (second .entry)) i j ⌝ }
 {
-    let checked1 = fields::check_record(first, i);
-    let Checked::Good(y) = checked1 else {
-        return unchecked(checked1);
-    };
-    let checked2 = fields::check_record(second, j);
-    let Checked::Good(z) = checked2 else {
-        return unchecked(checked2);
-    };
     let at = pair_judgement::locate(first, second);
     let Where::On(p, q) = at else {
         return Verdict::Passed;
     };
+    let y = fields::layout_of(first);
+    let z = fields::layout_of(second);
     let a = Side {
         layout: y,
         pos: p,

@@ -20,7 +20,10 @@ cast-judge-pair-2 : tie.Need-cast-judge-pair-2
 cast-judge-pair-2 c = search needs
 
 judge-pair-requires : tie.Need-judge-pair-requires
-judge-pair-requires c κs = search needs
+judge-pair-requires c κs =
+    let entry = c .before .before .before .before in
+    rw (c .before .record-at .ensures, c .record-at2 .ensures)
+    (entry .pre .0 .sound (entry .args .i) (entry .pre .1), entry .pre .0 .sound (entry .args .j) (entry .pre .2))
 
 returns : tie.Need-returns
 returns c =
