@@ -12,7 +12,7 @@ use Rattle.stats.specs.Room.{Room, Adds, AtMost}
 use Rattle.stats.proofs.CountLaws.{room-less, room-plus, room-adds}
 use Rattle.strategy.specs.declared.Strategies.{Strategies}
 use Rattle.positions.specs.Step.{state}
-use Rattle.pair.specs.declared.Called.{Called}
+use Rattle.pair_merge.specs.declared.Met.{Met}
 use Rattle.pair.specs.declared.Answer.{Answer}
 use Rattle.pair.specs.declared.Answer.the-variants.{NoOverlap, Overlap, Refused}
 use Rattle.pair.specs.Pair.{Outcome, pairOf}
@@ -24,19 +24,23 @@ use Rattle.group_frames.proofs.PlaceLaws.{at-start, at-end, at-order, at-in}
 use Rattle.group_mates.specs.Register.{matesOf, mateCons, pairsFrom, pairsOf}
 use Rattle.group_mates.specs.Promise.{times, Once}
 use Rattle.group_mates.proofs.OnceLaws.{pairs-once, pairs-half}
-use Rattle.group_verdicts.specs.Judged.{pairAt}
+use Rattle.group_verdicts.specs.declared.Verdict.the-variants.{Passed}
+use Rattle.group_verdicts.specs.Judged.{pairAt, judgeBy}
+use Rattle.group_verdicts.specs.Indexed.{indexedAt}
+use Rattle.group_verdicts.proofs.IndexLaws.{passed-cleared, first-passed}
 use Rattle.group_verdicts.proofs.JudgeLaws.{pairs-turn, pairs-start, pairs-end}
 use Rattle.group_applying.specs.declared.Applied.{Applied}
 use Rattle.group_applying.specs.Applied.{written, grown, overlapCount, overlapsIn, AppliedTo}
-use Rattle.group_applying.specs.Within.{startIn, endIn, callIn, Given, Within, BothPut}
+use Rattle.group_applying.specs.Within.{startIn, endIn, callIn, Given, Within, overlapOf, BothPut}
 use Rattle.group_applying.proofs.CallLaws.{call-most}
 use Rattle.group_applying.proofs.WrittenLaws.{stepped, step-size, step-other, first-in, second-in, once-rest, first-there, second-there, later-there, first-not-later, second-not-later}
 
--- with the pairs l still to treat: s and g as they stand, p pairs treated, of which o overlap
+-- with the pairs l still to treat, which passed: s and g as they stand, p pairs treated, of which o overlap
 pub record Applying (w : Strategies) (s₀ : List ℕ) (g₀ : CorrectionStats) (n : ℕ) (l : List (ℕ × ℕ)) (s : List ℕ) (g : CorrectionStats) (p o : ℕ) : Type 0 where
   pub size : length s ≡ length s₀
   pub once : Once n l
   pub fresh : (j : ℕ) → 0 < times l j → part s (startOf s₀ j) (endOf s₀ j) ≡ recordOf s₀ j
+  pub passed : judgeBy (indexedAt s₀) l ≡ Passed
   pub room : Room g (131072 * length l)
   pub bytes : written w s₀ l s ≡ written w s₀ (pairsOf s₀ n) s₀
   pub counts : grown w s₀ l g ≡ grown w s₀ (pairsOf s₀ n) g₀
@@ -48,13 +52,15 @@ pub record Applying (w : Strategies) (s₀ : List ℕ) (g₀ : CorrectionStats) 
 abbrev pub rest : List ℕ → ℕ → ℕ → List (ℕ × ℕ)
 rest s n i = pairsFrom (matesOf s n) i (n - i)
 
-pub applying-start : (w : Strategies) (s : List ℕ) (g : CorrectionStats) (n : ℕ) → n ≤ 256 → Room g (128 * 131072) → Applying w s g n (rest s n 0) s g 0 0
-applying-start w s g n few r =
+pub applying-start : (w : Strategies) (s : List ℕ) (g : CorrectionStats) (n : ℕ) → n ≤ 256 → Room g (128 * 131072) → judgeBy (indexedAt s) (pairsOf s n) ≡ Passed
+    → Applying w s g n (rest s n 0) s g 0 0
+applying-start w s g n few r v =
     let h = pairs-half s n in
     rw (pairs-start (matesOf s n) n) (record {
       size = refl;
       once = pairs-once s n;
       fresh = λ j t. refl;
+      passed = v;
       room = room-less g (131072 * length (pairsOf s n)) (128 * 131072) (omega (arith, h)) r;
       bytes = refl;
       counts = refl;
@@ -126,9 +132,10 @@ module _ (w : Strategies) (s₀ : List ℕ) (g₀ : CorrectionStats) (n i : ℕ)
           inside₂ = inside₂;
           room = omega (arith, t .sound (m - 1) mate-below .allowed, ap length part₂, length-part s (startIn begins (m - 1)) (endIn begins (m - 1)) order₂ inside₂);
         };
+        cleared = rw (part₁, part₂) (passed-cleared (recordOf s₀ i) (recordOf s₀ (m - 1)) i (m - 1) (first-passed (indexedAt s₀) (i, m - 1) l (now-at .passed) .0));
       }
 
-      module _ (s′ : List ℕ) (r : Called) (put : BothPut w s (startIn begins i) (endIn begins i) (startIn begins (m - 1)) (endIn begins (m - 1)) s′ r) where
+      module _ (s′ : List ℕ) (r : Met) (put : BothPut w s (startIn begins i) (endIn begins i) (startIn begins (m - 1)) (endIn begins (m - 1)) s′ r) where
         call-is : callIn w s (startIn begins i) (endIn begins i) (startIn begins (m - 1)) (endIn begins (m - 1)) ≡ pairAt w s₀ i (m - 1)
         call-is = ap₂ (λ (x y : List ℕ). pairOf w (state x y zeroed)) part₁ part₂
 
@@ -144,12 +151,12 @@ module _ (w : Strategies) (s₀ : List ℕ) (g₀ : CorrectionStats) (n i : ℕ)
         bytes-is : s′ ≡ stepped w s₀ s (i, m - 1)
         bytes-is = rw (call-is, start₁, end₁, start₂, end₂) at (put .bytes)
 
-        pub applying-next : (o′ : ℕ) → o′ ≡ overlapCount (r .answer) → (g′ : CorrectionStats) → g′ ≡ plus g (r .stats) → Applying w s₀ g₀ n l s′ g′ (p + 1) (o + o′)
+        pub applying-next : (o′ : ℕ) → o′ ≡ overlapOf (r .shared) → (g′ : CorrectionStats) → g′ ≡ plus g (r .stats) → Applying w s₀ g₀ n l s′ g′ (p + 1) (o + o′)
         unfolding written grown overlapsIn
         applying-next o′ eo g′ eg =
             let v = now-at in
             let j = m - 1 in
-            let ans : o′ ≡ overlapCount (pairAt w s₀ i j .answer) = eo ∙ ap overlapCount (put .answer ∙ ap (λ (x : Outcome). x .answer) call-is) in
+            let ans : o′ ≡ overlapCount (pairAt w s₀ i j .answer) = eo ∙ put .overlap ∙ ap (λ (x : Outcome). overlapCount (x .answer)) call-is in
             let sum : g′ ≡ plus g (pairAt w s₀ i j .after .stats) = eg ∙ ap (plus g) stats-is in
             record {
               size = ap length bytes-is ∙ step-size w s₀ n (t .fit) s (a .size) (i, j) below mate-below;
@@ -157,6 +164,7 @@ module _ (w : Strategies) (s₀ : List ℕ) (g₀ : CorrectionStats) (n i : ℕ)
               fresh = λ h b. ap (λ (x : List ℕ). part x (startOf s₀ h) (endOf s₀ h)) bytes-is
                   ∙ step-other w s₀ n (t .fit) s (a .size) (i, j) below mate-below h (first-not-later n (i, j) l (v .once) h b) (second-not-later n (i, j) l (v .once) h b)
                   ∙ v .fresh h (later-there n (i, j) l h b);
+              passed = first-passed (indexedAt s₀) (i, j) l (v .passed) .1;
               room = rw eg (room-plus g (r .stats) (131072 * length l) 131072 (room-less g (131072 * length l + 131072) (131072 * suc (length l)) (omega arith) (v .room)) most);
               bytes = ap (written w s₀ l) bytes-is ∙ v .bytes;
               counts = ap (grown w s₀ l) sum ∙ v .counts;

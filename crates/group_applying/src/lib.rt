@@ -1,17 +1,21 @@
-// The pairs of a group corrected where they stand, each by the pair call.
-use pair::Answer;
-use pair::Called;
+// The pairs of a group, all of them judged, corrected where they stand as the pair call corrects them.
+use group_verdicts::Verdict;
+use pair_merge::Met;
 use stats::CorrectionStats;
 use strategy::Strategies;
 ghost use mathlib.Core.Path.{_≡_};
 ghost use Prim.Native.Nat.{_*_, _≤_};
 ghost use lib.ListN.{length};
 ghost use Rattle.stats.specs.Room.{Room};
+ghost use Rattle.pair_judgement.specs.Ready.{Cleared};
+ghost use Rattle.group_frames.specs.Part.{part};
 ghost use Rattle.group_frames.specs.Table.{FrameTable};
 ghost use Rattle.group_mates.specs.Register.{pairsOf};
 ghost use Rattle.group_mates.specs.Table.{Mated};
-ghost use Rattle.group_applying.specs.Applied.{overlapCount, AppliedTo};
-ghost use Rattle.group_applying.specs.Within.{startIn, endIn, Given, Within, BothPut};
+ghost use Rattle.group_verdicts.specs.Judged.{judgeBy};
+ghost use Rattle.group_verdicts.specs.Indexed.{indexedAt};
+ghost use Rattle.group_applying.specs.Applied.{AppliedTo};
+ghost use Rattle.group_applying.specs.Within.{startIn, endIn, Given, Within, overlapOf, BothPut};
 
 // What treating the pairs gives: how many there are, how many of these overlap, and the counts after.
 pub struct Applied {
@@ -20,19 +24,18 @@ pub struct Applied {
     pub stats: CorrectionStats,
 }
 
-// How much a pair with this answer adds to the number of overlapping ones.
-fn overlap_of(a: Answer) -> usize
-    ensures { λ r. ⌜ (r ≡ overlapCount a) × (r ≤ 1) ⌝ }
+// How much a pair that shares so many positions adds to the number of overlapping ones.
+fn overlap_of(shared: usize) -> usize
+    ensures { λ r. ⌜ (r ≡ overlapOf shared) × (r ≤ 1) ⌝ }
 {
-    match a {
-        Answer::NoOverlap => 0,
-        Answer::Overlap => 1,
-        Answer::Refused(_) => 0,
+    if shared == 0 {
+        return 0;
     }
+    1
 }
 
-// The pair call on two parts of a list, its counts begun at 0. The second is copied out for it, and
-// back.
+// Two parts of a list that were judged as a pair, corrected with counts from 0. The second is copied
+// out for it, and back.
 fn apply_parts(
     buf: &mut [u8],
     room: &mut [u8],
@@ -41,23 +44,23 @@ fn apply_parts(
     from: usize,
     to: usize,
     w: Strategies,
-) -> Called
-    requires { ⌜ Within (now buf) (length (now room)) start end from to ⌝ }
+) -> Met
+    requires { ⌜ Within (now buf) (length (now room)) start end from to × Cleared (part (now buf) start end) (part (now buf) from to) ⌝ }
     ensures { λ r. ⌜ BothPut w (now (buf .entry)) start end from to (now (buf .exit)) r ⌝ }
 {
     let n = to - from;
     bytes::copy(&buf[from..to], &mut room[0..n]);
-    let called = pair::call(
+    let met = pair_judgement::treat_judged(
+        w,
         &mut buf[start..end],
         &mut room[0..n],
-        w,
         CorrectionStats::new(),
     );
     bytes::copy(&room[0..n], &mut buf[from..to]);
-    called
+    met
 }
 
-// The pair call on records i and j of a group.
+// Records i and j of a group, which were judged as a pair, corrected.
 fn apply_pair(
     buf: &mut [u8],
     room: &mut [u8],
@@ -65,7 +68,7 @@ fn apply_pair(
     i: usize,
     j: usize,
     w: Strategies,
-) -> Called
+) -> Met
     requires { ⌜ Given (now buf) (length (now room)) (now begins) i j ⌝ }
     ensures { λ r. ⌜ BothPut w (now (buf .entry)) (startIn (now (begins .entry)) i) (endIn (now (begins .entry)) i) (startIn (now (begins .entry)) j) (endIn (now (begins .entry)) j) (now (buf .exit)) r ⌝ }
 {
@@ -76,7 +79,8 @@ fn apply_pair(
     apply_parts(buf, room, start, end, mate_start, mate_end, w)
 }
 
-// Every pair of a group corrected, in order of the first's index. `room` takes one record at a time.
+// Every pair of a group corrected, in order of the first's index; all were judged, and none refused.
+// `room` takes one record at a time.
 pub fn apply_all(
     buf: &mut [u8],
     room: &mut [u8],
@@ -86,7 +90,7 @@ pub fn apply_all(
     w: Strategies,
     stats: CorrectionStats,
 ) -> Applied
-    requires { ⌜ FrameTable (now buf) (now begins) n × Mated (now buf) (now mate) n × (65536 ≤ length (now room)) × Room stats (128 * 131072) ⌝ }
+    requires { ⌜ FrameTable (now buf) (now begins) n × Mated (now buf) (now mate) n × (65536 ≤ length (now room)) × Room stats (128 * 131072) × (judgeBy (indexedAt (now buf)) (pairsOf (now buf) n) ≡ Verdict.Passed) ⌝ }
     ensures { λ r. ⌜ AppliedTo w (now (buf .entry)) (pairsOf (now (buf .entry)) n) stats (now (buf .exit)) r ⌝ }
 {
     let mut pairs: usize = 0;
@@ -98,11 +102,10 @@ pub fn apply_all(
         if m == 0 {
             i += 1;
         } else {
-            let called = apply_pair(buf, room, begins, i, m - 1, w);
-            let answer = called.answer;
-            let growth = called.stats;
+            let met = apply_pair(buf, room, begins, i, m - 1, w);
+            let growth = met.stats;
             pairs += 1;
-            overlapping += overlap_of(answer);
+            overlapping += overlap_of(met.shared);
             sum = sum.plus(growth);
             i += 1;
         }

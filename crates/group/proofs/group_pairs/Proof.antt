@@ -1,5 +1,5 @@
 -- `group::group_pairs` meets its contract: what its callees ensure, put together by the laws of the stages. Assumes nothing.
-use mathlib.Core.Path.{refl, sym}
+use mathlib.Core.Path.{refl, sym, _∙_}
 use Rattle.stats.proofs.CountLaws.{full-room}
 use Rattle.group_frames.specs.declared.Framing.the-variants.{Whole}
 use Rattle.group.proofs.GroupLaws.{refused-pair, done}
@@ -34,9 +34,16 @@ slice-aggregate-apply-all c = search needs
 
 apply-all-requires : tie.Need-apply-all-requires
 apply-all-requires c κs =
-    let by-find = c .before .before .before .before .before .before .before .before .before in
-    let entry = by-find .before .before .before .before .before in
-    (entry .pre .0, by-find .find .ensures, search needs, full-room (entry .args .stats) (entry .pre .2))
+    let by-enum-told = c .before .before .before in
+    let by-judge-all = by-enum-told .before .before in
+    let by-find = by-judge-all .before .before .before .before in
+    let entry = by-find .before .before .before .before .before in (
+      entry .pre .0,
+      by-find .find .ensures,
+      search needs,
+      full-room (entry .args .stats) (entry .pre .2),
+      sym (by-judge-all .judge-all .ensures) ∙ by-enum-told .enum-told .given .1,
+    )
 
 same-length : tie.Need-same-length
 same-length c = search needs

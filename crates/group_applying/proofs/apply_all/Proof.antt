@@ -20,7 +20,7 @@ loop-holds : tie.Need-loop-holds Inv-loop μ-loop
 loop-holds c =
     let entry = c .before .before .before .before in
     let args = entry .args in
-    (applying-start (args .w) (now (args .buf)) (args .stats) (args .n) (entry .pre .0 .few) (entry .pre .3), omega arith, refl, refl)
+    (applying-start (args .w) (now (args .buf)) (args .stats) (args .n) (entry .pre .0 .few) (entry .pre .3) (entry .pre .4), omega arith, refl, refl)
 
 mul-m : tie.Need-mul-m Inv-loop μ-loop
 mul-m c =
