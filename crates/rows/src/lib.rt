@@ -14,22 +14,29 @@ ghost use Rattle.positions.specs.Step.{state, job};
 ghost use Rattle.positions.specs.Treating.{steps, row};
 ghost use Rattle.rows.specs.Wide.{Wide};
 
-// Whether stretches of a record with this layout can't be read: 16 bases as a word from any base on, and 32 bytes
-// up to any quality. So it is of a record of fewer than eight bases, and of no other.
-fn narrow(y: Layout) -> bool
-    ensures { λ r. ⌜ (r ≡ false → Wide y) × (r ≡ true → Wide y → ⊥) ⌝ }
+// Whether a record has too few bases for stretches to be read: 16 bases as a word from any base on, and 32 bytes
+// up to any quality. One of fewer than eight bases has, and no other record that was checked.
+fn narrow(y: Layout, z: Layout) -> bool
+    ensures { λ r. ⌜ (r ≡ false → Wide y × Wide z) × (r ≡ true → Wide y × Wide z → ⊥) ⌝ }
 {
     if y.count < 8 {
+        return true;
+    }
+    if z.count < 8 {
         return true;
     }
     if y.qualities < 32 {
         return true;
     }
+    if z.qualities < 32 {
+        return true;
+    }
     false
 }
 
-// n shared positions in a row: as many as agree at once, then the one behind them by itself, and on.
-fn treat_stretches(
+// n shared positions in a row, from base i of the first record and base j of the second on: as many as agree at
+// once, then the one behind them by itself, and on. Where a record is too short for that, all one by one.
+pub fn treat_row(
     w: Strategies,
     first: &mut [u8],
     second: &mut [u8],
@@ -40,9 +47,12 @@ fn treat_stretches(
     n: usize,
     g: CorrectionStats,
 ) -> CorrectionStats
-    requires { ⌜ Lies y (length (now first)) × Lies z (length (now second)) × (i .0 + n ≤ y .count) × (j .0 + n ≤ z .count) × Room g (2 * n) × Wide y × Wide z ⌝ }
+    requires { ⌜ Lies y (length (now first)) × Lies z (length (now second)) × (i .0 + n ≤ y .count) × (j .0 + n ≤ z .count) × Room g (2 * n) ⌝ }
     ensures { λ r. ⌜ state (now (first .exit)) (now (second .exit)) r ≡ steps (job w y z) (row (i .0) (j .0) n) (state (now (first .entry)) (now (second .entry)) g) ⌝ }
 {
+    if narrow(y, z) {
+        return positions::treat_row(w, first, second, y, z, i, j, n, g);
+    }
     let m = w.agreement;
     let yq = y.qualities;
     let zq = z.qualities;
@@ -66,29 +76,4 @@ fn treat_stretches(
         }
     }
     h.plus(lane::agreements(agreeing, corrected))
-}
-
-// n shared positions in a row, from base i of the first record and base j of the second on: by stretches, or one by
-// one where these can't be read.
-pub fn treat_row(
-    w: Strategies,
-    first: &mut [u8],
-    second: &mut [u8],
-    y: Layout,
-    z: Layout,
-    i: ReadOffset,
-    j: ReadOffset,
-    n: usize,
-    g: CorrectionStats,
-) -> CorrectionStats
-    requires { ⌜ Lies y (length (now first)) × Lies z (length (now second)) × (i .0 + n ≤ y .count) × (j .0 + n ≤ z .count) × Room g (2 * n) ⌝ }
-    ensures { λ r. ⌜ state (now (first .exit)) (now (second .exit)) r ≡ steps (job w y z) (row (i .0) (j .0) n) (state (now (first .entry)) (now (second .entry)) g) ⌝ }
-{
-    if narrow(y) {
-        return positions::treat_row(w, first, second, y, z, i, j, n, g);
-    }
-    if narrow(z) {
-        return positions::treat_row(w, first, second, y, z, i, j, n, g);
-    }
-    treat_stretches(w, first, second, y, z, i, j, n, g)
 }
