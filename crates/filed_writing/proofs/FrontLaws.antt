@@ -1,11 +1,11 @@
--- A part put right behind a front that is done makes a longer one, and leaves what is behind it.
+-- A part put right behind a front that is done makes a longer one, and leaves what is behind it. A list copied block by block.
 use Prim.Native.Nat.{ℕ, _+_, _-_, _≤_}
-use mathlib.Core.Path.{_≡_, sym, _∙_, ap, ap₂}
+use mathlib.Core.Path.{_≡_, refl, sym, _∙_, ap, ap₂}
 use mathlib.Core.List.{List, _++_, append-assoc}
 use native.Mathlib.Omega.{arith}
 use borrow.Rule.Slice.PartMut.{same-len-mid, drop-put}
 use lib.ListN.{length, take, drop, length-append}
-use lib.Seq.{take-at, take-add, drop-drop, length-take-le}
+use lib.Seq.{take-at, take-all, take-take, take-add, drop-drop, length-take-le}
 use Rattle.group_frames.specs.Part.{part, splice}
 use Rattle.group_frames.proofs.PartLaws.{length-part}
 use Rattle.filed_writing.specs.Written.{Front}
@@ -30,3 +30,22 @@ module _ (out x : List ℕ) (a e : ℕ) (order : a ≤ e) (inside : e ≤ length
       let n : length (take a out ++ x) ≡ e = omega (arith, length-append (take a out) x, length-take-le a out (omega arith), size) in
       ap (take e) (sym (append-assoc (take a out) x (drop (e - a) (drop a out)))) ∙ take-at (take a out ++ x) (drop (e - a) (drop a out)) e n
       ∙ ap₂ (λ (p q : List ℕ). p ++ q) f g ∙ sym (take-add a (e - a) u) ∙ ap (λ (k : ℕ). take k u) m
+
+-- ---- blocks of u put where they stand in it into a list as long as u, whose front is done up to d
+module _ (u out : List ℕ) (d : ℕ) (long : length out ≡ length u) (f : Front u out d) where
+  -- the next block may begin in what is done
+  module _ (a : ℕ) (back : a ≤ d) (inside : a + 32 ≤ length u) (out′ : List ℕ) (e : out′ ≡ splice out a (a + 32) (part u a (a + 32))) where
+    size : length (part u a (a + 32)) ≡ a + 32 - a
+    size = length-part u a (a + 32) (omega arith) inside
+
+    pub block-front : Front u out′ (a + 32)
+    block-front =
+        let g : Front u out a = sym (take-take a d out back) ∙ ap (take a) f ∙ take-take a d u back in
+        rw e (front-next out (part u a (a + 32)) a (a + 32) (omega arith) (omega arith) size u g refl)
+
+    pub block-long : length out′ ≡ length u
+    block-long = ap length e ∙ size-next out (part u a (a + 32)) a (a + 32) (omega arith) (omega arith) size ∙ long
+
+    -- the last one ends with u
+    pub block-last : length u ≡ a + 32 → out′ ≡ u
+    block-last l = sym (take-all (a + 32) out′ (omega (arith, block-long))) ∙ block-front ∙ take-all (a + 32) u (omega arith)

@@ -4,7 +4,7 @@ use mathlib.Core.Path.{_≡_, refl, sym, _∙_, ap}
 use mathlib.Core.List.{List, []}
 use native.Mathlib.Numerals.{add-one}
 use native.Mathlib.Omega.{arith}
-use lib.ListN.{length, getD, take, drop}
+use lib.ListN.{length, drop}
 use Rattle.stats.specs.declared.CorrectionStats.{CorrectionStats}
 use Rattle.stats.specs.Counts.{zeroed, plus}
 use Rattle.stats.specs.Room.{Room, Adds}
@@ -12,11 +12,8 @@ use Rattle.stats.proofs.CountLaws.{plus-zero, room-less, room-plus, room-adds}
 use Rattle.strategy.specs.declared.Strategies.{Strategies}
 use Rattle.pair.specs.declared.Answer.{Answer}
 use Rattle.pair.specs.declared.Answer.the-variants.{NoOverlap, Overlap, Refused}
-use Rattle.group_frames.specs.Part.{part, splice}
-use Rattle.group_frames.specs.Frame.{beginOf, startOf, endOf, recordOf}
-use Rattle.group_frames.specs.Table.{FrameTable}
-use Rattle.group_frames.proofs.PartLaws.{length-part}
-use Rattle.group_frames.proofs.PlaceLaws.{start-end, end-in, at-start}
+use Rattle.group_frames.specs.Frame.{beginOf, endOf, recordOf}
+use Rattle.group_frames.proofs.PlaceLaws.{begin-mono}
 use Rattle.group_mates.specs.Register.{matesOf, mateCons, pairsOf}
 use Rattle.group_mates.proofs.OnceLaws.{pairs-half}
 use Rattle.group_verdicts.specs.Judged.{pairAt}
@@ -25,9 +22,12 @@ use Rattle.group_applying.specs.declared.Applied.{Applied}
 use Rattle.group_applying.specs.Applied.{grown, overlapCount, overlapsIn}
 use Rattle.group_applying.proofs.ApplyLaws.{rest}
 use Rattle.group_applying.proofs.CallLaws.{call-most}
-use Rattle.filed_writing.specs.Written.{corrected, Front, addedBy, WrittenTo}
-use Rattle.filed_writing.proofs.FrontLaws.{size-next, behind-next, front-next}
-use Rattle.filed_writing.proofs.RecordLaws.{corrected-size, size-stays}
+use Rattle.filed_writing.specs.declared.Turn.{Turn}
+use Rattle.filed_writing.specs.declared.Held.{Held}
+use Rattle.filed_writing.specs.Turn.{Turned, Wrote}
+use Rattle.filed_writing.specs.Written.{corrected, Front, applied, addedBy, WrittenTo}
+use Rattle.filed_writing.proofs.FrontLaws.{behind-later}
+use Rattle.filed_writing.proofs.ChosenLaws.{adds-as}
 
 -- ---- the numbers, with the pairs l still to write: the counts g, p pairs written, of which o overlap
 pub record Counting (w : Strategies) (s : List ℕ) (n : ℕ) (l : List (ℕ × ℕ)) (g : CorrectionStats) (p o : ℕ) : Type 0 where
@@ -109,69 +109,22 @@ pub filling-start : (w : Strategies) (s : List ℕ) (n : ℕ) (out : List ℕ) �
 unfolding beginOf
 filling-start w s n out = record { front = refl; behind = refl; size = refl }
 
-module _ (w : Strategies) (s begins : List ℕ) (n : ℕ) (t : FrameTable s begins n) (out₀ : List ℕ) (fits : beginOf s n ≤ length out₀) (k : ℕ) (below : k < n) (out : List ℕ)
-    (a : Filling w s n k out₀ out) where
-  here : getD begins k 0 ≡ beginOf s k
-  here = t .places k (omega arith)
+-- ---- the turn of record k, which is written from out to out′: what it adds, and the bytes
+module _ (w : Strategies) (s : List ℕ) (n : ℕ) (fit : beginOf s n ≤ length s) (k : ℕ) (below : k < n) (t : Turn) (now : t .index ≡ k) (h : Turned s n t)
+    (out out′ : List ℕ) (g : Held) (d : Wrote w s n t out out′ g) where
+  pub turn-step : (c : CorrectionStats) (p o : ℕ) → Counting w s n (rest s n k) c p o
+      → (r : Applied) → (t .first ≡ t .index + 1 → r ≡ g .added) → ((t .first ≡ t .index + 1 → ⊥) → r ≡ applied 0 0 zeroed) → Step w s n (rest s n (k + 1)) c p o r
+  turn-step c p o a r pair none = step w s n k c p o a below r (rw now at (adds-as w s n fit t h out out′ g d r pair none))
 
-  behind-size : getD begins k 0 + 4 ≡ startOf s k
-  behind-size = at-start s begins n t k below
-
-  pub size-source : getD begins k 0 + 4 ≤ length s
-  size-source = omega (arith, behind-size, start-end s k, end-in s k n below, t .fit)
-
-  pub size-room : getD begins k 0 + 4 ≤ length out
-  size-room = omega (arith, behind-size, start-end s k, end-in s k n below, a .size)
-
-  pub sizes-long : length (part out (getD begins k 0) (getD begins k 0 + 4)) ≡ length (part s (getD begins k 0) (getD begins k 0 + 4))
-  sizes-long =
-      length-part out (getD begins k 0) (getD begins k 0 + 4) (omega arith) size-room ∙ sym (length-part s (getD begins k 0) (getD begins k 0 + 4) (omega arith) size-source)
-
-  -- the four size bytes copied
-  module _ (d : List ℕ) (e : d ≡ part s (getD begins k 0) (getD begins k 0 + 4)) where
-    abbrev b : ℕ
-    b = getD begins k 0
-
-    abbrev u : List ℕ
-    u = corrected w s n
-
-    size-long : length d ≡ b + 4 - b
-    size-long = ap length e ∙ length-part s b (b + 4) (omega arith) size-source
-
-    size-due : d ≡ part u b (b + 4)
-    size-due =
-        e ∙ ap (λ (x : ℕ). part s x (x + 4)) here ∙ sym (size-stays w s n (t .fit) k below) ∙ sym (ap (λ (x : ℕ). part u x (x + 4)) here)
-
-    pub copied-size : length (splice out (getD begins k 0) (getD begins k 0 + 4) d) ≡ length out
-    copied-size = size-next out d b (b + 4) (omega arith) size-room size-long
-
-    pub copied-ends : endOf s k ≤ length (splice out (getD begins k 0) (getD begins k 0 + 4) d)
-    copied-ends = omega (arith, copied-size, a .size, end-in s k n below)
-
-    pub copied-front : Front (corrected w s n) (splice out (getD begins k 0) (getD begins k 0 + 4) d) (startOf s k)
-    copied-front =
-        let f : Front u out b = ap (λ (x : ℕ). take x out) here ∙ a .front ∙ sym (ap (λ (x : ℕ). take x u) here) in
-        ap (λ (x : ℕ). take x (splice out b (b + 4) d)) (sym behind-size) ∙ front-next out d b (b + 4) (omega arith) size-room size-long u f size-due ∙ ap (λ (x : ℕ). take x u) behind-size
-
-    copied-behind : drop (startOf s k) (splice out b (b + 4) d) ≡ drop (startOf s k) out₀
-    copied-behind =
-        let f : drop b out ≡ drop b out₀ = ap (λ (x : ℕ). drop x out) here ∙ a .behind ∙ sym (ap (λ (x : ℕ). drop x out₀) here) in
-        ap (λ (x : ℕ). drop x (splice out b (b + 4) d)) (sym behind-size) ∙ behind-next out d b (b + 4) (omega arith) size-room size-long out₀ f ∙ ap (λ (x : ℕ). drop x out₀) behind-size
-
-    -- and the record put behind them
-    pub filling-next : (out′ : List ℕ) → out′ ≡ splice (splice out (getD begins k 0) (getD begins k 0 + 4) d) (startOf s k) (endOf s k) (part (corrected w s n) (startOf s k) (endOf s k))
-        → Filling w s n (k + 1) out₀ out′
-    unfolding endOf
-    filling-next out′ q =
-        let out₁ = splice out b (b + 4) d in
-        let x = part u (startOf s k) (endOf s k) in
-        let m : endOf s k ≡ beginOf s (k + 1) = ap (beginOf s) (sym (add-one k)) in
-        let l : length x ≡ endOf s k - startOf s k = length-part u (startOf s k) (endOf s k) (start-end s k) (omega (arith, end-in s k n below, t .fit, corrected-size w s n (t .fit))) in
-        rw q (record {
-          front = rw (sym m) (front-next out₁ x (startOf s k) (endOf s k) (start-end s k) copied-ends l u copied-front refl);
-          behind = rw (sym m) (behind-next out₁ x (startOf s k) (endOf s k) (start-end s k) copied-ends l out₀ copied-behind);
-          size = size-next out₁ x (startOf s k) (endOf s k) (start-end s k) copied-ends l ∙ copied-size ∙ a .size;
-        })
+  pub turn-filled : (out₀ : List ℕ) → Filling w s n k out₀ out → length out′ ≡ length out → Filling w s n (k + 1) out₀ out′
+  unfolding endOf
+  turn-filled out₀ a l =
+      let e : endOf s (t .index) ≡ beginOf s (k + 1) = rw (now, add-one) refl in
+      record {
+        front = rw (sym e) (d .front);
+        behind = rw (sym e) (d .behind ∙ behind-later out out₀ (beginOf s k) (endOf s (t .index)) (omega (arith, e, begin-mono s k (k + 1) (omega arith))) (a .behind));
+        size = l ∙ a .size;
+      }
 
 -- ---- all are written
 pub written-all : (w : Strategies) (s : List ℕ) (n k : ℕ) (out₀ out : List ℕ) (r : Applied) → Filling w s n k out₀ out → Counting w s n (rest s n k) (r .stats) (r .pairs) (r .overlapping) → n ≤ k → k ≤ n

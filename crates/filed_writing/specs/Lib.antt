@@ -1,3 +1,4 @@
 pub mod Lead
 pub mod Written
 pub mod Short
+pub mod Turn

@@ -1,23 +1,25 @@
-// A corrected group written front to back into another buffer; the group given stays as it is. A
-// pair is treated in two rooms once for each of its records, so that bytes go out in order.
+// A corrected group written front to back into another buffer; the group given stays as it is. A pair
+// is treated in two rooms and stands there until another is: mates with no other pair between them are
+// treated once, and other mates once for each of the two, so that bytes go out in order.
 use group_applying::Applied;
 use stats::CorrectionStats;
 use strategy::Strategies;
 ghost use mathlib.Core.Path.{_≡_};
 ghost use Prim.Native.Nat.{ℕ, _+_, _-_, _<_, _≤_};
 ghost use mathlib.Core.Bool.{cond};
+ghost use mathlib.Core.List.{List};
 ghost use lib.Dec.{eqb};
-ghost use lib.ListN.{length, getD, take};
+ghost use lib.ListN.{length, getD};
 ghost use Rattle.stats.specs.Counts.{zeroed};
 ghost use Rattle.group_frames.specs.Part.{part, splice};
-ghost use Rattle.group_frames.specs.Frame.{beginOf, startOf, endOf, recordOf};
+ghost use Rattle.group_frames.specs.Frame.{beginOf, endOf, recordOf};
 ghost use Rattle.group_frames.specs.Table.{FrameTable};
-ghost use Rattle.group_mates.specs.Register.{matesOf};
 ghost use Rattle.group_mates.specs.Table.{Mated};
 ghost use Rattle.group_applying.specs.Within.{startIn, endIn};
 ghost use Rattle.filed_writing.specs.Lead.{Pairing, Led};
 ghost use Rattle.filed_writing.specs.Short.{Short};
-ghost use Rattle.filed_writing.specs.Written.{Treats, Copied, corrected, Front, applied, addedBy, WrittenTo};
+ghost use Rattle.filed_writing.specs.Turn.{Turned, Rooms, Stands, framed, Wrote};
+ghost use Rattle.filed_writing.specs.Written.{Treats, Copied, corrected, Front, applied, WrittenTo};
 
 // Empties the first n entries of the table.
 fn clear(lead: &mut [usize], n: usize)
@@ -81,6 +83,45 @@ fn treat(first: &mut [u8], second: &mut [u8], w: Strategies) -> Applied
     }
 }
 
+// How many bytes are copied at once. Every record has as many.
+const BLOCK: usize = 32;
+
+// One block of src, put where it stands in it into dst. It is read whole before it is written, so it moves in few
+// instructions.
+fn copy_block(src: &[u8], dst: &mut [u8], at: usize)
+    requires { ⌜ (at + 32 ≤ length (now src)) × (at + 32 ≤ length (now dst)) ⌝ }
+    ensures { λ _. ⌜ now (dst .exit) ≡ splice (now (dst .entry)) at (at + 32) (part (now (src .entry)) at (at + 32)) ⌝ }
+{
+    let mut block = [0u8; BLOCK];
+    bytes::copy(&src[at..at + BLOCK], &mut block);
+    bytes::copy(&block, &mut dst[at..at + BLOCK]);
+}
+
+// The size of the frame that begins at a place of s, put there into out.
+fn copy_size(s: &[u8], out: &mut [u8], begin: usize)
+    requires { ⌜ (begin + 4 ≤ length (now s)) × (begin + 4 ≤ length (now out)) ⌝ }
+    ensures { λ _. ⌜ now (out .exit) ≡ splice (now (out .entry)) begin (begin + 4) (part (now (s .entry)) begin (begin + 4)) ⌝ }
+{
+    let mut size = [0u8; 4];
+    bytes::copy(&s[begin..begin + 4], &mut size);
+    bytes::copy(&size, &mut out[begin..begin + 4]);
+}
+
+// Copies a record, block by block. The last block is that which ends with the record, so it may overlap the
+// one before it.
+fn copy_record(src: &[u8], dst: &mut [u8])
+    requires { ⌜ (32 ≤ length (now src)) × (length (now dst) ≡ length (now src)) ⌝ }
+    ensures { λ _. ⌜ now (dst .exit) ≡ now (src .entry) ⌝ }
+{
+    let last = src.len() - BLOCK;
+    let mut at: usize = 0;
+    while at < last {
+        copy_block(src, dst, at);
+        at += BLOCK;
+    }
+    copy_block(src, dst, last);
+}
+
 // The pair call on copies of two records, and what the pair adds.
 fn treat_copies(
     first: &[u8],
@@ -89,13 +130,13 @@ fn treat_copies(
     left: &mut [u8],
     right: &mut [u8],
 ) -> Applied
-    requires { ⌜ (length (now first) ≤ length (now left)) × (length (now second) ≤ length (now right)) ⌝ }
+    requires { ⌜ (32 ≤ length (now first)) × (32 ≤ length (now second)) × (length (now first) ≤ length (now left)) × (length (now second) ≤ length (now right)) ⌝ }
     ensures { λ r. ⌜ Copied w (now (first .entry)) (now (second .entry)) (now (left .exit)) (now (right .exit)) r ⌝ }
 {
     let n = first.len();
     let m = second.len();
-    bytes::copy(first, &mut left[0..n]);
-    bytes::copy(second, &mut right[0..m]);
+    copy_record(first, &mut left[0..n]);
+    copy_record(second, &mut right[0..m]);
     treat(&mut left[0..n], &mut right[0..m], w)
 }
 
@@ -110,7 +151,7 @@ fn treat_pair(
     left: &mut [u8],
     right: &mut [u8],
 ) -> Applied
-    requires { ⌜ FrameTable (now s) (now begins) n × (i < n) × (j < n) × Short (now begins) n (length (now left)) × Short (now begins) n (length (now right)) ⌝ }
+    requires { ⌜ FrameTable (now s) (now begins) n × (i < n) × (j < n) × Rooms (now begins) n (now left) (now right) ⌝ }
     ensures { λ r. ⌜ Copied w (recordOf (now (s .entry)) i) (recordOf (now (s .entry)) j) (now (left .exit)) (now (right .exit)) r ⌝ }
 {
     let first = group_frames::record_at(s, begins, i);
@@ -129,46 +170,127 @@ fn no_pair() -> Applied
     }
 }
 
-// Puts as many bytes as record k has, from the front of x, where that record lies.
-fn put_record(begins: &[usize], k: usize, x: &[u8], out: &mut [u8])
-    requires { ⌜ (k + 1 < length (now begins)) × (startIn (now begins) k ≤ endIn (now begins) k) × (endIn (now begins) k ≤ length (now out)) × (endIn (now begins) k - startIn (now begins) k ≤ length (now x)) ⌝ }
-    ensures { λ _. ⌜ now (out .exit) ≡ splice (now (out .entry)) (startIn (now (begins .entry)) k) (endIn (now (begins .entry)) k) (take (endIn (now (begins .entry)) k - startIn (now (begins .entry)) k) (now (x .entry))) ⌝ }
-{
-    let start = begins[k] + 4;
-    let end = begins[k + 1];
-    let size = end - start;
-    bytes::copy(&x[0..size], &mut out[start..end]);
+// The record that is written next, and the pair that it is in: one more than the index of the first and of
+// the last; 0 and 0: none.
+struct Turn {
+    index: usize,
+    first: usize,
+    last: usize,
 }
 
-// Writes record k as it is in the corrected group. Its pair counts where the first is written.
+// The turn of record k, by the tables of mates and leads.
+fn turn_of(mate: &[usize], lead: &[usize], k: usize) -> Turn
+    requires { ⌜ (k < 256) × (256 ≤ length (now mate)) × (256 ≤ length (now lead)) ⌝ }
+    ensures { λ r. ⌜ (r .index ≡ k) × ((s : List ℕ) (n : ℕ) → k < n → Mated s (now (mate .entry)) n → Led (now (mate .entry)) (now (lead .entry)) n → Turned s n r) ⌝ }
+{
+    let m = mate[k];
+    if m != 0 {
+        return Turn {
+            index: k,
+            first: k + 1,
+            last: m,
+        };
+    }
+    let f = lead[k];
+    if f != 0 {
+        return Turn {
+            index: k,
+            first: f,
+            last: k + 1,
+        };
+    }
+    Turn {
+        index: k,
+        first: 0,
+        last: 0,
+    }
+}
+
+// The pair that stands treated in the rooms: one more than the index of its first, 0 for none; and what it
+// adds.
+struct Held {
+    first: usize,
+    added: Applied,
+}
+
+// The pair of the record whose turn it is, treated in the rooms unless it stands there.
+fn hold(
+    s: &[u8],
+    begins: &[usize],
+    n: usize,
+    t: Turn,
+    held: Held,
+    w: Strategies,
+    left: &mut [u8],
+    right: &mut [u8],
+) -> Held
+    requires { ⌜ FrameTable (now s) (now begins) n × Turned (now s) n t × Rooms (now begins) n (now left) (now right) × Stands w (now s) n (held .first) (now left) (now right) (held .added) ⌝ }
+    ensures { λ r. ⌜ Stands w (now (s .entry)) n (r .first) (now (left .exit)) (now (right .exit)) (r .added) × Stands w (now (s .entry)) n (t .first) (now (left .exit)) (now (right .exit)) (r .added) ⌝ }
+{
+    if t.first == 0 {
+        return held;
+    }
+    if t.first == held.first {
+        return held;
+    }
+    let added = treat_pair(s, begins, n, t.first - 1, t.last - 1, w, left, right);
+    Held {
+        first: t.first,
+        added,
+    }
+}
+
+// Puts the frame of record k: its size, and as many bytes as the record has from the front of x.
+fn put_frame(s: &[u8], begins: &[usize], k: usize, x: &[u8], out: &mut [u8])
+    requires { ⌜ (k + 1 < length (now begins)) × (startIn (now begins) k + 32 ≤ endIn (now begins) k) × (endIn (now begins) k ≤ length (now s)) × (endIn (now begins) k ≤ length (now out)) × (endIn (now begins) k - startIn (now begins) k ≤ length (now x)) ⌝ }
+    ensures { λ _. ⌜ now (out .exit) ≡ framed (now (s .entry)) (getD (now (begins .entry)) k 0) (endIn (now (begins .entry)) k) (now (x .entry)) (now (out .entry)) ⌝ }
+{
+    let begin = begins[k];
+    let start = begin + 4;
+    let end = begins[k + 1];
+    let size = end - start;
+    copy_size(s, out, begin);
+    copy_record(&x[0..size], &mut out[start..end]);
+}
+
+// Writes the record whose turn it is, with its size, as it is in the corrected group; afterwards its pair
+// stands in the rooms.
 fn write_record(
     s: &[u8],
     begins: &[usize],
     n: usize,
-    mate: &[usize],
-    lead: &[usize],
-    k: usize,
+    t: Turn,
+    held: Held,
     w: Strategies,
     left: &mut [u8],
     right: &mut [u8],
     out: &mut [u8],
-) -> Applied
-    requires { ⌜ FrameTable (now s) (now begins) n × Mated (now s) (now mate) n × Led (now mate) (now lead) n × (k < n) × Short (now begins) n (length (now left)) × Short (now begins) n (length (now right)) × (endOf (now s) k ≤ length (now out)) × Front (corrected w (now s) n) (now out) (startOf (now s) k) ⌝ }
-    ensures { λ r. ⌜ (now (out .exit) ≡ splice (now (out .entry)) (startOf (now (s .entry)) k) (endOf (now (s .entry)) k) (part (corrected w (now (s .entry)) n) (startOf (now (s .entry)) k) (endOf (now (s .entry)) k))) × (r ≡ addedBy w (now (s .entry)) k (matesOf (now (s .entry)) n k)) ⌝ }
+) -> Held
+    requires { ⌜ FrameTable (now s) (now begins) n × Turned (now s) n t × Rooms (now begins) n (now left) (now right) × Stands w (now s) n (held .first) (now left) (now right) (held .added) × (endOf (now s) (t .index) ≤ length (now out)) × Front (corrected w (now s) n) (now out) (beginOf (now s) (t .index)) ⌝ }
+    ensures { λ r. ⌜ Wrote w (now (s .entry)) n t (now (out .entry)) (now (out .exit)) r × Stands w (now (s .entry)) n (r .first) (now (left .exit)) (now (right .exit)) (r .added) ⌝ }
 {
-    let m = mate[k];
-    if m != 0 {
-        let one = treat_pair(s, begins, n, k, m - 1, w, left, right);
-        put_record(begins, k, left, out);
-        return one;
+    let h = hold(s, begins, n, t, held, w, left, right);
+    let k = t.index;
+    if t.first == 0 {
+        put_frame(s, begins, k, group_frames::record_at(s, begins, k), out);
+        return h;
     }
-    let f = lead[k];
-    if f != 0 {
-        treat_pair(s, begins, n, f - 1, k, w, left, right);
-        put_record(begins, k, right, out);
-        return no_pair();
+    if t.first == k + 1 {
+        put_frame(s, begins, k, left, out);
+        return h;
     }
-    put_record(begins, k, group_frames::record_at(s, begins, k), out);
+    put_frame(s, begins, k, right, out);
+    h
+}
+
+// What the record whose turn it is adds: a pair counts where its first is written.
+fn added_at(t: Turn, held: Held) -> Applied
+    requires { ⌜ t .index < 256 ⌝ }
+    ensures { λ r. ⌜ (t .first ≡ t .index + 1 → r ≡ held .added) × ((t .first ≡ t .index + 1 → ⊥) → r ≡ applied 0 0 zeroed) ⌝ }
+{
+    if t.first == t.index + 1 {
+        return held.added;
+    }
     no_pair()
 }
 
@@ -189,14 +311,18 @@ pub fn write_all(
     ensures { λ r. ⌜ WrittenTo w (now (s .entry)) n (now (out .entry)) (now (out .exit)) r ⌝ }
 {
     enter_leads(mate, n, lead);
+    let mut held = Held {
+        first: 0,
+        added: no_pair(),
+    };
     let mut pairs: usize = 0;
     let mut overlapping: usize = 0;
     let mut sum = CorrectionStats::new();
     let mut k: usize = 0;
     while k < n {
-        let begin = begins[k];
-        bytes::copy(&s[begin..begin + 4], &mut out[begin..begin + 4]);
-        let one = write_record(s, begins, n, mate, lead, k, w, left, right, out);
+        let t = turn_of(mate, lead, k);
+        held = write_record(s, begins, n, t, held, w, left, right, out);
+        let one = added_at(t, held);
         let growth = one.stats;
         pairs += one.pairs;
         overlapping += one.overlapping;
