@@ -24,6 +24,8 @@ unsafe extern "C" {
     fn overlap_call(a: *mut u8, b: usize, c: *mut u8, d: usize, e: u32, f: u32, g: *mut u8, h: usize) -> u32;
     fn limit_run(a: *mut u8, b: usize, c: *mut u8, d: usize, e: u32, f: u32, g: *mut u8, h: usize) -> u32;
     fn limit_block(a: *mut u8, b: usize, c: *mut u8, d: usize, e: u32, f: u32, g: *mut u8, h: usize) -> u32;
+    #[cfg(target_arch = "x86_64")]
+    fn limit_sse2(a: *mut u8, b: usize, c: *mut u8, d: usize, e: u32, f: u32, g: *mut u8, h: usize) -> u32;
     fn clock_gettime(clock: i32, time: *mut [i64; 2]) -> i32;
     fn getrusage(who: i32, usage: *mut [i64; 18]) -> i32;
 }
@@ -33,11 +35,13 @@ enum Side {
     Rust,
     C(Call),
 }
-const SIDES: [(&str, Side); 4] = [
+const SIDES: &[(&str, Side)] = &[
     ("rust", Side::Rust),
     ("ours", Side::C(overlap_call)),
     ("c-run", Side::C(limit_run)),
     ("c-block", Side::C(limit_block)),
+    #[cfg(target_arch = "x86_64")]
+    ("sse2", Side::C(limit_sse2)),
 ];
 
 fn caller(agreement: u32, disagreement: u32) -> Caller {
@@ -140,7 +144,7 @@ fn verify() {
         let mut p = pairs_of(name);
         for how in (0..9).map(|s| (s / 3, s % 3)) {
             let mut want = None;
-            for (side, run) in SIDES {
+            for &(side, run) in SIDES {
                 let (mut rust, mut counts) = (caller(how.0, how.1), [0; 32]);
                 p.restore();
                 let overlap = timed_pairs(run, &mut p, &mut rust, how, &mut counts);
@@ -176,7 +180,7 @@ fn time(rounds: usize) {
     for name in WORKLOADS {
         let mut p = pairs_of(name);
         let pairs = p.at.len() as f64;
-        let mut took = SIDES.map(|_| Vec::new());
+        let mut took = vec![Vec::new(); SIDES.len()];
         let mut positions = 0.0;
         for round in 0..rounds + 2 {
             for k in 0..SIDES.len() {
@@ -194,7 +198,7 @@ fn time(rounds: usize) {
                 }
             }
         }
-        for (i, (side, _)) in SIDES.into_iter().enumerate() {
+        for (i, (side, _)) in SIDES.iter().enumerate() {
             let ratio = took[0].iter().zip(&took[i]).map(|(r, t)| r / t).collect();
             println!("{name}\t{side}\t{:.1}\t{:.2}\t{positions:.1}", median(took[i].clone()), median(ratio));
         }
@@ -208,7 +212,7 @@ fn one(side: &str, name: &str) {
         println!("{}", groups.iter().map(Vec::len).sum::<usize>());
     } else {
         let mut p = pairs_of(name);
-        let run = SIDES.into_iter().find(|s| s.0 == side).expect("a side").1;
+        let run = SIDES.iter().find(|s| s.0 == side).expect("a side").1;
         timed_pairs(run, &mut p, &mut caller(0, 0), (0, 0), &mut [0; 32]);
         println!("{}", p.at.len());
     }

@@ -1,6 +1,6 @@
 /* drive.c: one side of the benchmark as an x86-64 program, so that icount.c counts its calls on any processor.
  *
- *   drive ours|c-run|c-block <PAIRS     two digits (agreement, disagreement) and frames: `bench frames WORKLOAD` writes them
+ *   drive ours|c-run|c-block|sse2 <PAIRS     two digits (agreement, disagreement) and frames: `bench frames WORKLOAD` writes them
  *
  * Prints how many pairs there are and how many overlap, the four counts, and a digest of all bytes after the calls:
  * sides that agree print the same line.
@@ -11,12 +11,12 @@
 #include <unistd.h>
 
 typedef uint32_t Call(uint8_t *, size_t, uint8_t *, size_t, uint32_t, uint32_t, uint8_t *, size_t);
-Call limit_run, limit_block;
+Call limit_run, limit_block, limit_sse2;
 static const struct { const char *name; Call *call; } SIDES[] = {
-    {"ours", overlap_call}, {"c-run", limit_run}, {"c-block", limit_block},
+    {"ours", overlap_call}, {"c-run", limit_run}, {"c-block", limit_block}, {"sse2", limit_sse2},
 };
 
-enum { ROOM = 1 << 21, MOST = 1000 };
+enum { ROOM = 1 << 21, MOST = 1000, SIDE_COUNT = sizeof SIDES / sizeof *SIDES };
 static uint8_t bytes[ROOM];
 struct pairs { uint8_t *work; size_t (*at)[4], n; }; /* of each: where the first is, its length, the second's */
 
@@ -50,8 +50,8 @@ int main(int argc, char **argv) {
     struct pairs p = {bytes, at, 0};
     size_t len = 0, side = 0;
     for (ssize_t k; len < ROOM && (k = read(0, bytes + len, ROOM - len)) > 0; len += (size_t)k) {}
-    while (argc == 2 && side < 3 && strcmp(argv[1], SIDES[side].name) != 0) side++;
-    if (argc != 2 || side == 3 || !cut(&p, len)) return fputs("drive: no such side, or no whole pairs\n", stderr), 2;
+    while (argc == 2 && side < SIDE_COUNT && strcmp(argv[1], SIDES[side].name) != 0) side++;
+    if (argc != 2 || side == SIDE_COUNT || !cut(&p, len)) return fputs("drive: no such side, or no whole pairs\n", stderr), 2;
 
     union { uint8_t bytes[32]; unsigned long long n[4]; } counts = {{0}};
     getppid();

@@ -10,9 +10,9 @@ WORDS = {
     "W1": "W1 2x150, overlap 0 to 150", "W2": "W2 2x100, full overlap", "W3": "W3 21 to 61 operations",
     "W4": "W4 40,000 bases", "W5": "W5 mapped apart",
 }
-HEAD = ("a pair", "ours", "limit", "the Rust", "C, plain loop", "C, blocks", "ours a position",
-        "times the Rust: ours", "limit", "C, plain loop", "C, blocks")
-COLUMNS = (0, 1, 2, 4, 5, 6) if count.ALONE else range(len(HEAD))
+HEAD = ("a pair", "ours", "limit", "the Rust", "C, plain loop", "C, blocks", "SSE2 by hand", "SSE2 / ours", "ours a position",
+        "times the Rust: ours", "limit", "C, plain loop", "C, blocks", "SSE2 by hand")
+COLUMNS = (0, 1, 2, 4, 5, 6, 7, 8) if count.ALONE else range(len(HEAD))
 out, program = sys.argv[1:]
 ratio, positions = {}, {}
 
@@ -46,19 +46,19 @@ def row(*cells):
 
 
 def pair(w, words):
-    n = {side: count.side(out, side, w) for side in ("ours", "rust", "c-run", "c-block")}
+    n = {side: count.side(out, side, w) for side in ("ours", "rust", "c-run", "c-block", "sse2")}
     counted = count.positions(w) if count.ALONE else positions[w]
-    row(words, whole(n["ours"]), whole(LIMITS[w][0]), whole(n["rust"]), whole(n["c-run"]), whole(n["c-block"]),
-        tenth(n["ours"] / counted if counted else None), tenth(ratio.get((w, "ours"))), LIMITS[w][1],
-        tenth(ratio.get((w, "c-run"))), tenth(ratio.get((w, "c-block"))))
+    row(words, whole(n["ours"]), whole(LIMITS[w][0]), whole(n["rust"]), whole(n["c-run"]), whole(n["c-block"]), whole(n["sse2"]),
+        f"{n['sse2'] / n['ours']:.0%}", tenth(n["ours"] / counted if counted else None), tenth(ratio.get((w, "ours"))), LIMITS[w][1],
+        *(tenth(ratio.get((w, side))) for side in ("c-run", "c-block", "sse2")))
 
 
 def record(n):
     """Answers what ours takes."""
     ours = count.program(out, program, n) if os.access(program, os.X_OK) else None
     rust, c = count.side(out, "rust", f"W6-{n}"), count.program(out, f"{out}/c-program", n)
-    row(f"W6 {n} records", whole(ours), whole(LIMITS["W6"][0]), whole(rust), "-", whole(c), "-",
-        by_count(rust, ours), LIMITS["W6"][1], "-", by_count(rust, c))
+    row(f"W6 {n} records", whole(ours), whole(LIMITS["W6"][0]), whole(rust), "-", whole(c), "-", "-", "-",
+        by_count(rust, ours), LIMITS["W6"][1], "-", by_count(rust, c), "-")
     return ours
 
 
