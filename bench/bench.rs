@@ -1,19 +1,34 @@
 //! The archive, the published Rust and hand-written C on the same bytes, in one process.
 //!
-//!   bench verify                 all sides equal on every workload, under all nine strategy pairs
-//!   bench time [ROUNDS]          time a pair, the sides taking turns
-//!   bench one SIDE WORKLOAD      one pass of one side, for callgrind
-//!   bench frames WORKLOAD        its pairs, for drive.c
-//!   bench groups FOLDER          the W6 groups as files that the program reads
-//!   bench equal FOLDER PATH..    the programs' output on these files against the published Rust
-//!   bench program FOLDER PATH..  the programs' time for 256 records
-//!   bench threads                the archive called from one thread and from two
+//!   bench verify [PAIRS]           all sides equal on every workload, under all nine strategy pairs, and on so
+//!                                  many random pairs, damaged ones, and ones at the ends of their ranges
+//!   bench time [ROUNDS]            time a pair, the sides taking turns
+//!   bench one SIDE WORKLOAD        one pass of one side, for callgrind
+//!   bench frames WORKLOAD          its pairs, for drive.c
+//!   bench groups FOLDER            the W6 groups as files that the program reads
+//!   bench equal FOLDER PATH..      the programs' output on these files against the published Rust
+//!   bench program FOLDER PATH..    the programs' time for 256 records
+//!   bench threads                  the archive called from one thread and from two
+#[path = "../oracle/judge/model.rs"]
+#[allow(dead_code)]
+mod model;
+#[path = "../oracle/judge/random.rs"]
+#[allow(dead_code)]
+mod random;
+#[path = "../oracle/judge/record.rs"]
+#[allow(dead_code)]
+mod record;
+#[path = "../oracle/judge/rng.rs"]
+#[allow(dead_code)]
+mod rng;
 mod workloads;
 use fgumi_raw_bam::RawRecord;
 use published::overlapping::{
     AgreementStrategy as A, DisagreementStrategy as D, OverlappingBasesConsensusCaller as Caller,
     apply_overlapping_consensus,
 };
+use record::Case;
+use rng::Rng;
 use std::hint::black_box;
 use std::io::Write;
 use std::time::{Duration, Instant};
@@ -138,7 +153,13 @@ fn owned(groups: &[Vec<Vec<u8>>]) -> Vec<Vec<RawRecord>> {
     groups.iter().map(|g| g.iter().cloned().map(RawRecord).collect()).collect()
 }
 
-fn verify() {
+/// Ends the run at the first difference.
+fn differs(what: &str, side: &str, from: &str) -> ! {
+    println!("{what}: {side} differs from {from}");
+    std::process::exit(1)
+}
+
+fn verify(pairs: u64) {
     let mut calls = 0;
     for name in WORKLOADS {
         let mut p = pairs_of(name);
@@ -154,14 +175,40 @@ fn verify() {
                 let got = (overlap, counts, p.work.clone());
                 let want = want.get_or_insert_with(|| got.clone());
                 if got != *want {
-                    println!("{name}, strategies {} {}: {side} differs from the Rust", how.0, how.1);
-                    std::process::exit(1);
+                    differs(&format!("{name}, strategies {} {}", how.0, how.1), side, "the Rust");
                 }
                 calls += p.at.len();
             }
         }
     }
     println!("# no difference in bytes, answers and counts: {calls} calls");
+    verify_made("random", random::good, pairs);
+    verify_made("damaged", random::damaged, pairs);
+    verify_made("extreme", random::extreme, pairs);
+    println!("# nor from the model on random pairs, damaged ones and extreme ones: {pairs} of each");
+}
+
+/// Every side that refuses, against the model of the rules: the Rust does none of our checks.
+fn verify_made(kind: &str, make: fn(&mut Rng) -> Case, pairs: u64) {
+    let guarded = |bytes: &[u8]| [&[0xA5; 16], bytes, &[0xA5; 16]].concat();
+    let mut r = Rng::new(SEED);
+    for i in 0..pairs {
+        let case = make(&mut r);
+        let mut want = [case.first.clone(), case.second.clone(), case.counts.clone()];
+        let [a, b, c] = &mut want;
+        let answer = model::pair(a, b, case.agreement, case.disagreement, c).code();
+        for &(side, run) in SIDES {
+            let Side::C(call) = run else { continue };
+            let mut lent = [&case.first, &case.second, &case.counts].map(|bytes| guarded(bytes));
+            let [a, b, c] = lent.each_mut().map(|bytes| bytes[16..].as_mut_ptr());
+            let (a_len, b_len, c_len) = (case.first.len(), case.second.len(), case.counts.len());
+            // SAFETY: three buffers of their own, each with its length.
+            let got = unsafe { call(a, a_len, b, b_len, case.agreement, case.disagreement, c, c_len) };
+            if got != answer || lent != want.each_ref().map(|bytes| guarded(bytes)) {
+                differs(&format!("{kind} pair {i}"), side, "the model");
+            }
+        }
+    }
 }
 
 /// Processor time of this thread in nanoseconds.
@@ -272,8 +319,7 @@ fn equal(folder: &str, paths: &[String]) {
                 let head = String::from_utf8_lossy(&out[..end]);
                 let same = head.starts_with(&format!("ok {} ", g.len())) && head.ends_with(&tail);
                 if !same || out[(end + 1).min(out.len())..] != w::frame(&after) {
-                    println!("{n} records: {path} differs from the Rust");
-                    std::process::exit(1);
+                    differs(&format!("{n} records"), path, "the Rust");
                 }
             }
         }
@@ -341,7 +387,8 @@ fn threads() {
 fn main() {
     let a: Vec<String> = std::env::args().skip(1).collect();
     match a.iter().map(String::as_str).collect::<Vec<_>>()[..] {
-        ["verify"] => verify(),
+        ["verify"] => verify(100_000),
+        ["verify", pairs] => verify(pairs.parse().unwrap()),
         ["time"] => time(40),
         ["time", rounds] => time(rounds.parse().unwrap()),
         ["one", side, workload] => one(side, workload),

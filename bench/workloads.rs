@@ -1,15 +1,7 @@
 //! The workloads, from a seed: the same bytes on every machine.
-
-#[path = "../oracle/judge/rng.rs"]
-#[allow(dead_code)]
-mod rng;
-use rng::Rng;
-
-#[path = "../oracle/judge/record.rs"]
-#[allow(dead_code)]
-mod record;
-use record::{D, EQ, I, M, N, S, X};
-pub use record::{Read, frame};
+use crate::record::{D, EQ, I, M, N, S, X};
+pub use crate::record::{Read, frame};
+use crate::rng::Rng;
 
 /// The numbers of a record that the step never reads: mapping quality, bin, mate and template length.
 fn unread(mate_pos: i32, template: i32) -> [u8; 15] {
