@@ -5,7 +5,9 @@ import sys
 
 import count
 
-LIMITS = {"W1": (1800, 20), "W2": (2100, 20), "W3": (20000, 6.5), "W4": (500000, 30), "W5": (280, 3), "W6": (1400, 11)}
+# Instructions at most, times the Rust at least. W6 by records.
+LIMITS = {"W1": (1100, 20), "W2": (1260, 20), "W3": (13600, 6.5), "W4": (275000, 30), "W5": (275, 3),
+          "W6 2 records": (950, 11), "W6 16 records": (870, 11), "W6 64 records": (870, 11), "W6 256 records": (850, 11)}
 WORDS = {
     "W1": "W1 2x150, overlap 0 to 150", "W2": "W2 2x100, full overlap", "W3": "W3 21 to 61 operations",
     "W4": "W4 40,000 bases", "W5": "W5 mapped apart",
@@ -15,6 +17,7 @@ HEAD = ("a pair", "ours", "limit", "the Rust", "C, plain loop", "C, blocks", "SS
 COLUMNS = (0, 1, 2, 4, 5, 6, 7, 8) if count.ALONE else range(len(HEAD))
 out, program = sys.argv[1:]
 ratio, positions = {}, {}
+ours = {}  # instructions of the archive and the program, by workload
 
 
 def read_times():
@@ -48,18 +51,19 @@ def row(*cells):
 def pair(w, words):
     n = {side: count.side(out, side, w) for side in ("ours", "rust", "c-run", "c-block", "sse2")}
     counted = count.positions(w) if count.ALONE else positions[w]
+    ours[w] = n["ours"]
     row(words, whole(n["ours"]), whole(LIMITS[w][0]), whole(n["rust"]), whole(n["c-run"]), whole(n["c-block"]), whole(n["sse2"]),
         f"{n['sse2'] / n['ours']:.0%}", tenth(n["ours"] / counted if counted else None), tenth(ratio.get((w, "ours"))), LIMITS[w][1],
         *(tenth(ratio.get((w, side))) for side in ("c-run", "c-block", "sse2")))
 
 
 def record(n):
-    """Answers what ours takes."""
-    ours = count.program(out, program, n) if os.access(program, os.X_OK) else None
+    w = f"W6 {n} records"
+    mine = count.program(out, program, n) if os.access(program, os.X_OK) else None
     rust, c = count.side(out, "rust", f"W6-{n}"), count.program(out, f"{out}/c-program", n)
-    row(f"W6 {n} records", whole(ours), whole(LIMITS["W6"][0]), whole(rust), "-", whole(c), "-", "-", "-",
-        by_count(rust, ours), LIMITS["W6"][1], "-", by_count(rust, c), "-")
-    return ours
+    ours[w] = mine
+    row(w, whole(mine), whole(LIMITS[w][0]), whole(rust), "-", whole(c), "-", "-", "-",
+        by_count(rust, mine), LIMITS[w][1], "-", by_count(rust, c), "-")
 
 
 if not count.ALONE:
@@ -69,10 +73,14 @@ print("|---" + "|--:" * (len(COLUMNS) - 1) + "|")
 for name, title in WORDS.items():
     pair(name, title)
 print("| **a record** |" + " |" * (len(COLUMNS) - 1))
-records = {n: record(n) for n in (2, 16, 64, 256)}
+for size in (2, 16, 64, 256):
+    record(size)
 print()
 if not count.ALONE:
     print("\\* by instructions. In processor time of whole runs on 256 records less runs on none, the system's reading "
           f"and writing included, times the Rust: ours {tenth(ratio.get(('W6', 'ours')))}, C {tenth(ratio['W6', 'c-block'])}.")
-if records[256]:
-    print(f"A record in a group of 256 costs {records[256] / records[16]:.2f} times one in a group of 16 (limit 1.1).")
+if ours["W6 256 records"]:
+    larger = ours["W6 256 records"] / ours["W6 16 records"]
+    print(f"A record in a group of 256 costs {larger:.2f} times one in a group of 16 (limit 1.1).")
+over = [w for w, n in ours.items() if n and n > LIMITS[w][0]]
+print(f"Above their limits of instructions: {', '.join(over) or 'none'}.")
