@@ -5,7 +5,7 @@
 //!   bench time [ROUNDS]            time a pair, the sides taking turns
 //!   bench one SIDE WORKLOAD        one pass of one side, for callgrind
 //!   bench frames WORKLOAD          its pairs, for drive.c
-//!   bench groups FOLDER            the W6 groups as files that the program reads
+//!   bench groups FOLDER            the W6 groups as files that the program reads, in both orders
 //!   bench equal FOLDER PATH..      the programs' output on these files against the published Rust
 //!   bench program FOLDER PATH..    the programs' time for 256 records
 //!   bench threads                  the archive called from one thread and from two
@@ -149,6 +149,12 @@ const GROUP_SIZES: [usize; 8] = [2, 4, 8, 16, 32, 64, 128, 256];
 fn groups_of(n: usize) -> Vec<Vec<Vec<u8>>> {
     w::w6((32 / n).clamp(2, 8), n, SEED)
 }
+/// As in W6, and with mates side by side.
+const ORDERS: [&str; 2] = ["w6", "beside"];
+fn ordered(order: &str, n: usize) -> Vec<Vec<Vec<u8>>> {
+    let groups = groups_of(n);
+    if order == "beside" { groups.into_iter().map(w::collated).collect() } else { groups }
+}
 fn owned(groups: &[Vec<Vec<u8>>]) -> Vec<Vec<RawRecord>> {
     groups.iter().map(|g| g.iter().cloned().map(RawRecord).collect()).collect()
 }
@@ -276,16 +282,19 @@ fn frames(name: &str) {
     std::io::stdout().write_all(&input(&records)).unwrap();
 }
 
-fn file_of(folder: &str, n: usize, i: usize) -> String {
-    format!("{folder}/w6-{n}-{i}.in")
+fn file_of(folder: &str, order: &str, n: usize, i: usize) -> String {
+    format!("{folder}/{order}-{n}-{i}.in")
 }
 fn write_groups(folder: &str) {
     std::fs::write(format!("{folder}/empty.in"), input(&[])).unwrap();
-    for n in GROUP_SIZES {
-        for (i, g) in groups_of(n).iter().enumerate() {
-            std::fs::write(file_of(folder, n, i), input(g)).unwrap();
+    for (order, n) in each_order_and_size() {
+        for (i, g) in ordered(order, n).iter().enumerate() {
+            std::fs::write(file_of(folder, order, n, i), input(g)).unwrap();
         }
     }
+}
+fn each_order_and_size() -> impl Iterator<Item = (&'static str, usize)> {
+    ORDERS.into_iter().flat_map(|order| GROUP_SIZES.map(|n| (order, n)))
 }
 
 fn start(path: &str, input: &str) -> std::process::Command {
@@ -306,30 +315,30 @@ fn run_time(path: &str, input: &str) -> f64 {
 }
 
 fn equal(folder: &str, paths: &[String]) {
-    for n in GROUP_SIZES {
-        let groups = groups_of(n);
+    for (order, n) in each_order_and_size() {
+        let groups = ordered(order, n);
         for (i, g) in groups.iter().enumerate() {
             let (mut rust, mut after) = (caller(0, 0), owned(&groups[i..=i]));
             timed_groups(&mut after, &mut rust);
             let after: Vec<Vec<u8>> = after.remove(0).into_iter().map(|r| r.0).collect();
             let tail = format!(" {}", numbers(&rust).map(|n| n.to_string()).join(" "));
             for path in paths {
-                let out = start(path, &file_of(folder, n, i)).output().unwrap().stdout;
+                let out = start(path, &file_of(folder, order, n, i)).output().unwrap().stdout;
                 let end = out.iter().position(|&b| b == b'\n').unwrap_or(0);
                 let head = String::from_utf8_lossy(&out[..end]);
                 let same = head.starts_with(&format!("ok {} ", g.len())) && head.ends_with(&tail);
                 if !same || out[(end + 1).min(out.len())..] != w::frame(&after) {
-                    differs(&format!("{n} records"), path, "the Rust");
+                    differs(&format!("{n} records, {order}"), path, "the Rust");
                 }
             }
         }
     }
-    println!("# no difference in groups of 2 to 256 records: {} programs", paths.len());
+    println!("# no difference in groups of 2 to 256 records, in both orders: {} programs", paths.len());
 }
 
 /// The whole program less a run on no records, beside the Rust in this process.
 fn program(folder: &str, paths: &[String]) {
-    let (groups, input) = (groups_of(256), file_of(folder, 256, 0));
+    let (groups, input) = (groups_of(256), file_of(folder, "w6", 256, 0));
     let mut took = vec![Vec::new(); paths.len() + 1];
     for _ in 0..200 {
         let (mut after, mut rust) = (owned(&groups[..1]), caller(0, 0));

@@ -331,3 +331,11 @@ pub fn w6(groups: usize, n: usize, seed: u64) -> Vec<Vec<Vec<u8>>> {
     let rf = reference(&mut r, REF);
     (0..groups).map(|_| group(n, &mut r, &rf)).collect()
 }
+
+/// The same records by their names, as in a file sorted by name: first, last, then secondary and supplementary ones.
+pub fn collated(mut group: Vec<Vec<u8>>) -> Vec<Vec<u8>> {
+    let flags = |r: &[u8]| u16::from_le_bytes([r[14], r[15]]);
+    let name = |r: &[u8]| r[32..32 + usize::from(r[8])].to_vec();
+    group.sort_by_key(|r| (name(r), flags(r) & 0x900, flags(r) & 0x80));
+    group
+}
