@@ -3,8 +3,8 @@
 //!   bench verify [PAIRS]           all sides equal on every workload, under all nine strategy pairs, and on so
 //!                                  many random pairs, damaged ones, and ones at the ends of their ranges
 //!   bench time [ROUNDS]            time a pair, the sides taking turns
-//!   bench one SIDE WORKLOAD        one pass of one side, for callgrind
-//!   bench frames WORKLOAD          its pairs, for drive.c
+//!   bench one SIDE WORKLOAD [HOW]  one pass of one side, for callgrind; HOW is both strategies, 00 if not given
+//!   bench frames WORKLOAD [HOW]    its pairs, for drive.c
 //!   bench groups FOLDER            the W6 groups as files that the program reads, in both orders
 //!   bench equal FOLDER PATH..      the programs' output on these files against the published Rust
 //!   bench program FOLDER PATH..    the programs' time for 256 records
@@ -258,38 +258,43 @@ fn time(rounds: usize) {
     }
 }
 
-fn one(side: &str, name: &str) {
+/// Agreement and disagreement, a digit each.
+fn strategies(how: &str) -> (u32, u32) {
+    let digit = |i| how[i..=i].parse().unwrap();
+    (digit(0), digit(1))
+}
+fn one(side: &str, name: &str, how: &str) {
     if let Some(n) = name.strip_prefix("W6-") {
         let mut groups = owned(&groups_of(n.parse().unwrap()));
         timed_groups(&mut groups, &mut caller(0, 0));
         println!("{}", groups.iter().map(Vec::len).sum::<usize>());
     } else {
-        let mut p = pairs_of(name);
+        let (mut p, how) = (pairs_of(name), strategies(how));
         let run = SIDES.iter().find(|s| s.0 == side).expect("a side").1;
-        timed_pairs(run, &mut p, &mut caller(0, 0), (0, 0), &mut [0; 32]);
+        timed_pairs(run, &mut p, &mut caller(how.0, how.1), how, &mut [0; 32]);
         println!("{}", p.at.len());
     }
 }
 
 /// In the form that the program reads: two digits (agreement, disagreement), and frames.
-fn input(records: &[Vec<u8>]) -> Vec<u8> {
-    [b"00".to_vec(), w::frame(records)].concat()
+fn input(how: &str, records: &[Vec<u8>]) -> Vec<u8> {
+    [how.as_bytes(), &w::frame(records)].concat()
 }
-fn frames(name: &str) {
+fn frames(name: &str, how: &str) {
     let p = pairs_of(name);
     let cut = |from: usize, len: usize| p.pristine[from..from + len].to_vec();
     let records: Vec<_> = p.at.iter().flat_map(|&[a, a_len, b, b_len]| [cut(a, a_len), cut(b, b_len)]).collect();
-    std::io::stdout().write_all(&input(&records)).unwrap();
+    std::io::stdout().write_all(&input(how, &records)).unwrap();
 }
 
 fn file_of(folder: &str, order: &str, n: usize, i: usize) -> String {
     format!("{folder}/{order}-{n}-{i}.in")
 }
 fn write_groups(folder: &str) {
-    std::fs::write(format!("{folder}/empty.in"), input(&[])).unwrap();
+    std::fs::write(format!("{folder}/empty.in"), input("00", &[])).unwrap();
     for (order, n) in each_order_and_size() {
         for (i, g) in ordered(order, n).iter().enumerate() {
-            std::fs::write(file_of(folder, order, n, i), input(g)).unwrap();
+            std::fs::write(file_of(folder, order, n, i), input("00", g)).unwrap();
         }
     }
 }
@@ -400,8 +405,10 @@ fn main() {
         ["verify", pairs] => verify(pairs.parse().unwrap()),
         ["time"] => time(40),
         ["time", rounds] => time(rounds.parse().unwrap()),
-        ["one", side, workload] => one(side, workload),
-        ["frames", workload] => frames(workload),
+        ["one", side, workload] => one(side, workload, "00"),
+        ["one", side, workload, how] => one(side, workload, how),
+        ["frames", workload] => frames(workload, "00"),
+        ["frames", workload, how] => frames(workload, how),
         ["groups", folder] => write_groups(folder),
         ["equal", folder, ..] => equal(folder, &a[2..]),
         ["program", folder, ..] => program(folder, &a[2..]),

@@ -7,7 +7,7 @@ import subprocess
 import sys
 
 ALONE = os.environ["COUNT"] == "icount"  # instructions alone, no times
-printed = {}  # what drive printed, by workload
+printed = {}  # what drive printed, by workload and strategies
 
 
 def run(command, stdin):
@@ -31,29 +31,29 @@ def icount(out, command, stdin):
     return int(re.search(rb"^instructions (\d+)$", got.stderr, re.M)[1]), got.stdout
 
 
-def drive(out, name, workload):
+def drive(out, name, workload, *how):
     """A pair, by drive.c; every side has to print the same."""
     path = f"{out}/{workload}.in"
     with open(path, "wb") as f:
-        subprocess.run([f"{out}/bench", "frames", workload], stdout=f, check=True)
+        subprocess.run([f"{out}/bench", "frames", workload, *how], stdout=f, check=True)
     with open(path, "rb") as f:
         total, line = icount(out, [f"{out}/drive", name], f)
-    if printed.setdefault(workload, line) != line:
-        sys.exit(f"{workload}: {name} differs: {printed[workload]} {line}")
+    if printed.setdefault((workload, how), line) != line:
+        sys.exit(f"{workload}: {name} differs: {printed[workload, how]} {line}")
     return total / int(line.split()[0])
 
 
 def positions(workload):
     """Counted positions a pair, once drive was run on it."""
-    pairs, _, overlapping = printed[workload].split()[:3]
+    pairs, _, overlapping = printed[workload, ()].split()[:3]
     return int(overlapping) / int(pairs)
 
 
-def side(out, name, workload):
-    """A pair (W6: a record), inside of the timed part alone."""
+def side(out, name, workload, *how):
+    """A pair (W6: a record), inside of the timed part alone; `how` is both strategies, as 11, if not 00."""
     if ALONE:
-        return None if name == "rust" else drive(out, name, workload)
-    total, items = callgrind([f"{out}/bench", "one", name, workload], "--toggle-collect=timed_*")
+        return None if name == "rust" else drive(out, name, workload, *how)
+    total, items = callgrind([f"{out}/bench", "one", name, workload, *how], "--toggle-collect=timed_*")
     return total / int(items)
 
 

@@ -8,6 +8,7 @@ import count
 # Instructions at most, times the Rust at least. W6 by records.
 LIMITS = {"W1": (1100, 20), "W2": (1260, 20), "W3": (13600, 6.5), "W4": (275000, 30), "W5": (275, 3),
           "W6 2 records": (950, 11), "W6 16 records": (870, 11), "W6 64 records": (870, 11), "W6 256 records": (850, 11)}
+MORE = 0.01  # what another strategy may take above Consensus
 WORDS = {
     "W1": "W1 2x150, overlap 0 to 150", "W2": "W2 2x100, full overlap", "W3": "W3 21 to 61 operations",
     "W4": "W4 40,000 bases", "W5": "W5 mapped apart",
@@ -66,6 +67,19 @@ def record(n):
         by_count(rust, mine), LIMITS[w][1], "-", by_count(rust, c), "-")
 
 
+def strategies():
+    """The archive under other strategies, each at most a little above Consensus."""
+    print("| ours, instructions a pair under strategies | 0 0 | 1 1 | 2 2 |\n|---|--:|--:|--:|")
+    above = []
+    for w in WORDS:
+        others = {how: count.side(out, "ours", w, how) for how in ("11", "22")}
+        growth = {how: n / ours[w] - 1 for how, n in others.items()}
+        cells = [f"{whole(n)} ({growth[how]:+.1%})" for how, n in others.items()]
+        print(f"| {w} | {whole(ours[w])} | {' | '.join(cells)} |", flush=True)
+        above += [f"{w} under {how[0]} {how[1]}" for how in others if growth[how] > MORE]
+    print(f"\nMore than {MORE:.0%} above 0 0: {', '.join(above) or 'none'}.")
+
+
 if not count.ALONE:
     read_times()
 row(*HEAD)
@@ -83,4 +97,5 @@ if ours["W6 256 records"]:
     larger = ours["W6 256 records"] / ours["W6 16 records"]
     print(f"A record in a group of 256 costs {larger:.2f} times one in a group of 16 (limit 1.1).")
 over = [w for w, n in ours.items() if n and n > LIMITS[w][0]]
-print(f"Above their limits of instructions: {', '.join(over) or 'none'}.")
+print(f"Above their limits of instructions: {', '.join(over) or 'none'}.\n")
+strategies()
