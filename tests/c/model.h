@@ -1,7 +1,8 @@
 /*
  * The paper in plain C, the only text of it here: what a shared position becomes (oracle/htslib.c holds it against what
  * htslib reads), frames, mates, and the filed call and the trailer call as include/overlap.h tells them. What a pair
- * becomes, what it answers and what it adds is asked of overlap_call; judged.c has the pair's answers as examples.
+ * becomes, what it answers and what it adds is asked of overlap_call; judged.c has the pair's answers as examples, and
+ * rows.c holds the pairs that share one row of positions against what each position becomes.
  * bench/limit.c and bench/program.c tell the same again for speed.
  */
 #ifndef MODEL_H
