@@ -1,4 +1,4 @@
-// 16 packed bases as one word, and how many of them two records agree in.
+// Stretches: at how many positions in a row two records agree, 16 packed bases compared as one word.
 use fields::Layout;
 use fields::ReadOffset;
 ghost use mathlib.Core.Path.{_≡_};
@@ -9,7 +9,7 @@ ghost use Rattle.stretch.specs.Halves.{Holds, Marks, FirstByte, First, S
 ghost use Rattle.stretch.specs.Alike.{Agreeing};
 
 // The 16 bases of s from a half of byte `at` on: the high half for 0, the low half for 1.
-pub fn word(s: &[u8], at: usize, odd: usize) -> u64
+fn word(s: &[u8], at: usize, odd: usize) -> u64
     requires { ⌜ (odd < 2) × (at + odd + 8 ≤ length (now s)) ⌝ }
     ensures { λ r. ⌜ Holds (now (s .entry)) (2 * at + odd) r ⌝ }
 {
@@ -51,7 +51,7 @@ fn first_marked(x: u64) -> usize
 }
 
 // How many halves of a and b, from the first on, are the same base and not N.
-pub fn first_unwell(a: u64, b: u64) -> usize
+fn first_unwell(a: u64, b: u64) -> usize
     ensures { λ r. ⌜ Stretch a b r ⌝ }
 {
     first_marked(unwell(a, b))

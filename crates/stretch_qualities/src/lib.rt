@@ -8,10 +8,10 @@ ghost use Rattle.stretch_qualities.specs.Blocks.{BlockOf};
 ghost use Rattle.stretch_qualities.specs.Stretched.{stretched, agreedRow};
 
 // What 32 pairs of qualities become, and in how many of them a quality changes.
-pub struct Block {
-    pub qual1: [u8; 32],
-    pub qual2: [u8; 32],
-    pub corrected: u8,
+struct Block {
+    qual1: [u8; 32],
+    qual2: [u8; 32],
+    corrected: u8,
 }
 
 // The 32 qualities from p of the first record and from q of the second on, all treated.
