@@ -30,6 +30,10 @@ filled-turn f l u v h e r k q =
     (λ p. getD-set-other l u k v 0 p ∙ r k (omega arith))
     (eq-or-ne k u)
 
+-- whether a quality changed is a 0 or a 1
+pub changed-low : (x a b p q : ℕ) → x ≡ changedOf a b p q → x ≤ 1
+changed-low x a b p q e = rw e (bit-low (eqb a p && eqb b q))
+
 abbrev pub block : List ℕ → List ℕ → ℕ → Block
 block p q c = record { qual1 = p; qual2 = q; corrected = c }
 
@@ -59,12 +63,6 @@ module _ (m : AgreementStrategy) (a : List ℕ) (p : ℕ) (b : List ℕ) (q d : 
 
   module _ (t : ℕ) (u v : List ℕ) (c : ℕ) (r : Qualities) (x : ℕ) (h : t < 32) (er : r ≡ laneAt m a p b q d t)
       (ex : x ≡ changedOf (getD a (p + t) 0) (getD b (q + t) 0) (r .qual1) (r .qual2)) (so : Filling t (block u v c)) where
-    one : x ≤ 1
-    one = rw ex (bit-low (eqb (getD a (p + t) 0) (r .qual1) && eqb (getD b (q + t) 0) (r .qual2)))
-
-    pub filling-few : c + x ≤ 32
-    filling-few = omega (arith, one, so .few)
-
     pub filling-turn : Filling (t + 1) (block (set u t (r .qual1)) (set v t (r .qual2)) (c + x))
     filling-turn =
         record {
@@ -74,7 +72,7 @@ module _ (m : AgreementStrategy) (a : List ℕ) (p : ℕ) (b : List ℕ) (q d : 
           qual1 = filled-turn (λ (k : ℕ). laneAt m a p b q d k .qual1) u t (r .qual1) (omega (arith, so .length₁)) (ap (λ (o : Qualities). o .qual1) er) (so .qual1);
           qual2 = filled-turn (λ (k : ℕ). laneAt m a p b q d k .qual2) v t (r .qual2) (omega (arith, so .length₂)) (ap (λ (o : Qualities). o .qual2) er) (so .qual2);
           corrected = sum-turn (changeAt m a p b q d) t c x (so .corrected) (ex ∙ ap (λ (o : Qualities). changedOf (getD a (p + t) 0) (getD b (q + t) 0) (o .qual1) (o .qual2)) er);
-          few = omega (arith, one, so .few);
+          few = omega (arith, changed-low x (getD a (p + t) 0) (getD b (q + t) 0) (r .qual1) (r .qual2) ex, so .few);
         }
 
   pub filling-end : (t : ℕ) (l : Block) → 32 ≤ t → Filling t l → BlockOf m a p b q d l

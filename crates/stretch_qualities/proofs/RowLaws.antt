@@ -171,5 +171,5 @@ module _ (m : AgreementStrategy) (p q n : ℕ) (s₀ : Stretched) where
         done = d;
       }
 
-  pub going-end : (t : ℕ) (a b : List ℕ) (c : ℕ) → n ≤ t → Going m p q n s₀ t a b c → stretched a b c ≡ agreedRow m p q n s₀
-  going-end t a b c h g = g .done ∙ ap (λ (k : ℕ). agreedRow m p q k s₀) (omega (arith, g .low))
+  pub going-end : (t : ℕ) (a b : List ℕ) (c : ℕ) → n ≤ t → s₀ .corrected ≡ 0 → Going m p q n s₀ t a b c → (stretched a b c ≡ agreedRow m p q n s₀) × (c ≤ n)
+  going-end t a b c h z g = (g .done ∙ ap (λ (k : ℕ). agreedRow m p q k s₀) (omega (arith, g .low)), omega (arith, g .few, g .low))

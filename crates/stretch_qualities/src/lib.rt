@@ -171,7 +171,7 @@ pub fn treat(
     n: usize,
 ) -> u64
     requires { ⌜ (32 ≤ p) × (p + n ≤ length (now first)) × (32 ≤ q) × (q + n ≤ length (now second)) ⌝ }
-    ensures { λ r. ⌜ stretched (now (first .exit)) (now (second .exit)) r ≡ agreedRow m p q n (stretched (now (first .entry)) (now (second .entry)) 0) ⌝ }
+    ensures { λ r. ⌜ (stretched (now (first .exit)) (now (second .exit)) r ≡ agreedRow m p q n (stretched (now (first .entry)) (now (second .entry)) 0)) × (r ≤ n) ⌝ }
 {
     let mut t = 0;
     let mut corrected: u64 = 0;

@@ -99,35 +99,20 @@ add-corrected : tie.Need-add-corrected Inv-loop μ-loop
 add-corrected c =
     let by-treat = c .before .before .before .before in
     let by-agreeing = by-treat .before .before .before .before .before in
-    let turn = by-agreeing .before .before .before .before .before .before in
+    let by-loop-test = by-agreeing .before .before .before .before .before in
+    let turn = by-loop-test .before in
     let entry = turn .before .before .before .before .before in
-    let args = entry .args in
     let loop = turn .loop in
-    let mid =
-    adding-stretch (args .w) (args .y) (args .z) (args .i .0) (args .j .0) (args .n)
-    (state (now (args .first)) (now (args .second)) (args .g))
-    (record { first = entry .pre .0; second = entry .pre .1 }) (entry .pre .2) (entry .pre .3)
-    (by-agreeing .agreeing .result) (loop .t) (loop .first) (loop .second) (loop .h) (loop .agreeing) (loop .corrected)
-    _ _ (by-treat .treat .result) (omega (arith, by-agreeing .agreeing .ensures .most, loop .inv .run .low))
-    (by-agreeing .agreeing .ensures .alike) (loop .inv) (by-treat .treat .ensures) in
-    omega (arith, mid .fewer, mid .run .low, entry .pre .2, entry .pre .0 .qualities, entry .good .1 .0 .0)
+    omega (arith, by-treat .treat .ensures .1, loop .inv .fewer, by-agreeing .agreeing .ensures .most, by-loop-test .loop-test .taken, entry .pre .2, entry .pre .0 .qualities, entry .good .1 .0 .0)
 
 add-agreeing : tie.Need-add-agreeing Inv-loop μ-loop
 add-agreeing c =
-    let by-treat = c .before .before .before .before in
-    let by-agreeing = by-treat .before .before .before .before .before in
-    let turn = by-agreeing .before .before .before .before .before .before in
+    let by-agreeing = c .before .before .before .before .before .before .before .before .before in
+    let by-loop-test = by-agreeing .before .before .before .before .before in
+    let turn = by-loop-test .before in
     let entry = turn .before .before .before .before .before in
-    let args = entry .args in
     let loop = turn .loop in
-    let mid =
-    adding-stretch (args .w) (args .y) (args .z) (args .i .0) (args .j .0) (args .n)
-    (state (now (args .first)) (now (args .second)) (args .g))
-    (record { first = entry .pre .0; second = entry .pre .1 }) (entry .pre .2) (entry .pre .3)
-    (by-agreeing .agreeing .result) (loop .t) (loop .first) (loop .second) (loop .h) (loop .agreeing) (loop .corrected)
-    _ _ (by-treat .treat .result) (omega (arith, by-agreeing .agreeing .ensures .most, loop .inv .run .low))
-    (by-agreeing .agreeing .ensures .alike) (loop .inv) (by-treat .treat .ensures) in
-    omega (arith, mid .few, mid .run .low, entry .pre .2, entry .pre .0 .qualities, entry .good .1 .0 .0)
+    omega (arith, loop .inv .few, by-agreeing .agreeing .ensures .most, by-loop-test .loop-test .taken, entry .pre .2, entry .pre .0 .qualities, entry .good .1 .0 .0)
 
 add-t : tie.Need-add-t Inv-loop μ-loop
 add-t c =
@@ -151,27 +136,18 @@ add-t40-2 c =
 treat-one-requires : tie.Need-treat-one-requires Inv-loop μ-loop
 treat-one-requires c κs =
     let by-if2 = c .before .before .before .before in
-    let by-treat = by-if2 .before .before .before .before .before in
-    let by-agreeing = by-treat .before .before .before .before .before in
-    let turn = by-agreeing .before .before .before .before .before .before in
+    let by-loop-test = by-if2 .before .before .before .before .before .before .before .before .before .before .before .before .before .before .before in
+    let turn = by-loop-test .before in
     let entry = turn .before .before .before .before .before in
     let args = entry .args in
-    let loop = turn .loop in
-    let mid =
-    adding-stretch (args .w) (args .y) (args .z) (args .i .0) (args .j .0) (args .n)
-    (state (now (args .first)) (now (args .second)) (args .g))
-    (record { first = entry .pre .0; second = entry .pre .1 }) (entry .pre .2) (entry .pre .3)
-    (by-agreeing .agreeing .result) (loop .t) (loop .first) (loop .second) (loop .h) (loop .agreeing) (loop .corrected)
-    _ _ (by-treat .treat .result) (omega (arith, by-agreeing .agreeing .ensures .most, loop .inv .run .low))
-    (by-agreeing .agreeing .ensures .alike) (loop .inv) (by-treat .treat .ensures) in (
-      lies-same (mid .run .first) (entry .pre .0),
-      lies-same (mid .run .second) (entry .pre .1),
+    let loop = turn .loop in (
+      lies-same (omega (arith, loop .inv .run .first)) (entry .pre .0),
+      lies-same (omega (arith, loop .inv .run .second)) (entry .pre .1),
       omega (arith, by-if2 .if2 .taken, entry .pre .2),
       omega (arith, by-if2 .if2 .taken, entry .pre .3),
       adding-room (args .w) (args .y) (args .z) (args .i .0) (args .j .0) (args .n)
-          (state (now (args .first)) (now (args .second)) (args .g))
-          (loop .t + by-agreeing .agreeing .result) _ _ (loop .h) (loop .agreeing + by-agreeing .agreeing .result) (loop .corrected + by-treat .treat .result)
-          (record { first = entry .pre .0; second = entry .pre .1 }) (entry .pre .2) (entry .pre .3) (by-if2 .if2 .taken) mid,
+          (state (now (args .first)) (now (args .second)) (args .g)) (loop .t) (loop .first) (loop .second) (loop .h) (loop .agreeing) (loop .corrected)
+          (record { first = entry .pre .0; second = entry .pre .1 }) (entry .pre .2) (entry .pre .3) (by-loop-test .loop-test .taken) (loop .inv),
     )
 
 add-t-2 : tie.Need-add-t-2 Inv-loop μ-loop
@@ -201,7 +177,7 @@ loop-again c =
     (record { first = entry .pre .0; second = entry .pre .1 }) (entry .pre .2) (entry .pre .3)
     (by-agreeing .agreeing .result) (loop .t) (loop .first) (loop .second) (loop .h) (loop .agreeing) (loop .corrected)
     _ _ (by-treat .treat .result) (omega (arith, by-agreeing .agreeing .ensures .most, loop .inv .run .low))
-    (by-agreeing .agreeing .ensures .alike) (loop .inv) (by-treat .treat .ensures) in
+    (by-agreeing .agreeing .ensures .alike) (loop .inv) (by-treat .treat .ensures .0) in
     adding-differ (args .w) (args .y) (args .z) (args .i .0) (args .j .0) (args .n)
     (state (now (args .first)) (now (args .second)) (args .g))
     (loop .t + by-agreeing .agreeing .result) _ _ (loop .h) (loop .agreeing + by-agreeing .agreeing .result) (loop .corrected + by-treat .treat .result)
@@ -225,7 +201,7 @@ loop-again-2 c =
     (record { first = entry .pre .0; second = entry .pre .1 }) (entry .pre .2) (entry .pre .3)
     (by-agreeing .agreeing .result) (loop .t) (loop .first) (loop .second) (loop .h) (loop .agreeing) (loop .corrected)
     _ _ (by-treat .treat .result) (omega (arith, by-agreeing .agreeing .ensures .most, loop .inv .run .low))
-    (by-agreeing .agreeing .ensures .alike) (loop .inv) (by-treat .treat .ensures)
+    (by-agreeing .agreeing .ensures .alike) (loop .inv) (by-treat .treat .ensures .0)
 
 agreements-requires : tie.Need-agreements-requires Inv-loop μ-loop
 agreements-requires c κs = search needs

@@ -1,10 +1,11 @@
 -- `stretch_qualities::fill_last` meets its contract. The loop keeps: t lanes are done, and the sum has not wrapped. Assumes nothing.
-use Prim.Native.Nat.{_-_}
+use Prim.Native.Nat.{_+_, _-_}
 use mathlib.Core.Path.{_≡_, refl}
 use native.Mathlib.Omega.{arith}
+use lib.ListN.{getD}
 use borrow.Author.Needs.{needs}
 use denote.Ref.{now}
-use Rattle.stretch_qualities.proofs.BlockLaws.{Filling, block, liveTable, filling-start, filling-few, filling-turn, filling-end, lane-last}
+use Rattle.stretch_qualities.proofs.BlockLaws.{Filling, block, liveTable, filling-start, changed-low, filling-turn, filling-end, lane-last}
 use Rattle.stretch_qualities.proofs.fill_last.Statement.{statement}
 use Rattle.stretch_qualities.proofs.fill_last.Tie as tie
 
@@ -53,20 +54,12 @@ changed-requires c κs = search needs
 add-corrected : tie.Need-add-corrected Inv-loop μ-loop
 add-corrected c =
     let by-chosen = c .before in
-    let by-agreed = by-chosen .before in
-    let by-loop-test = by-agreed .before .before .before .before in
+    let by-loop-test = by-chosen .before .before .before .before .before in
     let turn = by-loop-test .before in
     let entry = turn .before .before .before .before in
     let args = entry .args in
     let loop = turn .loop in
-    omega (
-      arith,
-      filling-few (args .m) (now (args .first)) (args .p) (now (args .second)) (args .q) (32 - args .n) (loop .t) (loop .qual1) (loop .qual2) (loop .corrected)
-          (by-chosen .chosen .result) (c .changed .result) (by-loop-test .loop-test .taken)
-          (lane-last (args .m) (now (args .first)) (args .p) (now (args .second)) (args .q) (args .n) (loop .t)
-          (by-agreed .agreed .result) (by-chosen .chosen .result) (entry .pre .2) (by-loop-test .loop-test .taken) (by-agreed .agreed .ensures) (by-chosen .chosen .ensures))
-          (c .changed .ensures) (loop .inv .1),
-    )
+    omega (arith, changed-low (c .changed .result) (getD (now (args .first)) (args .p + loop .t) 0) (getD (now (args .second)) (args .q + loop .t) 0) (by-chosen .chosen .result .qual1) (by-chosen .chosen .result .qual2) (c .changed .ensures), loop .inv .1 .few, by-loop-test .loop-test .taken)
 
 add-t : tie.Need-add-t Inv-loop μ-loop
 add-t c = omega arith

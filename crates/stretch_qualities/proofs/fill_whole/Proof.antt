@@ -1,9 +1,10 @@
 -- `stretch_qualities::fill_whole` meets its contract. The loop keeps: t lanes are done, and the sum has not wrapped. Assumes nothing.
-use Prim.Native.Nat.{_-_}
+use Prim.Native.Nat.{_+_, _-_}
 use native.Mathlib.Omega.{arith}
+use lib.ListN.{getD}
 use borrow.Author.Needs.{needs}
 use denote.Ref.{now}
-use Rattle.stretch_qualities.proofs.BlockLaws.{Filling, block, filling-start, filling-few, filling-turn, filling-end, lane-whole}
+use Rattle.stretch_qualities.proofs.BlockLaws.{Filling, block, filling-start, changed-low, filling-turn, filling-end, lane-whole}
 use Rattle.stretch_qualities.proofs.fill_whole.Statement.{statement}
 use Rattle.stretch_qualities.proofs.fill_whole.Tie as tie
 
@@ -48,13 +49,7 @@ add-corrected c =
     let entry = turn .before .before .before in
     let args = entry .args in
     let loop = turn .loop in
-    omega (
-      arith,
-      filling-few (args .m) (now (args .first)) (args .p) (now (args .second)) (args .q) 0 (loop .t) (loop .qual1) (loop .qual2) (loop .corrected)
-          (by-agreed .agreed .result) (c .changed .result) (by-loop-test .loop-test .taken)
-          (lane-whole (args .m) (now (args .first)) (args .p) (now (args .second)) (args .q) (loop .t) (by-agreed .agreed .result) (by-agreed .agreed .ensures))
-          (c .changed .ensures) (loop .inv),
-    )
+    omega (arith, changed-low (c .changed .result) (getD (now (args .first)) (args .p + loop .t) 0) (getD (now (args .second)) (args .q + loop .t) 0) (by-agreed .agreed .result .qual1) (by-agreed .agreed .result .qual2) (c .changed .ensures), loop .inv .few, by-loop-test .loop-test .taken)
 
 add-t : tie.Need-add-t Inv-loop μ-loop
 add-t c = omega arith
