@@ -1,8 +1,7 @@
 // The pair call: two records judged wholly, and only then corrected where they stand.
-use cigar::Extent;
 use fields::Checked;
 use pair_judgement::Judged;
-use positions::Job;
+use pair_judgement::Placed;
 use refusal::Refusal;
 use stats::CorrectionStats;
 use strategy::Strategies;
@@ -50,17 +49,17 @@ fn refused(c: Checked) -> Answer
 
 // Two records that were judged to be on one reference: treated, and answered by what they share.
 fn call_both(
-    w: Job,
+    w: Strategies,
     first: &mut [u8],
     second: &mut [u8],
-    p: Extent,
-    q: Extent,
+    a: Placed,
+    b: Placed,
     stats: CorrectionStats,
 ) -> Called
-    requires { ⌜ Ready (w .first) (w .second) p q (now first) (now second) × Room stats 131072 ⌝ }
-    ensures { λ r. ⌜ outcome (r .answer) (state (now (first .exit)) (now (second .exit)) (r .stats)) ≡ onJudged (w .strategies) (w .first) (w .second) (state (now (first .entry)) (now (second .entry)) stats) (Judged.Both p q) ⌝ }
+    requires { ⌜ Ready (a .layout) (b .layout) (a .extent) (b .extent) (now first) (now second) × Room stats 131072 ⌝ }
+    ensures { λ r. ⌜ outcome (r .answer) (state (now (first .exit)) (now (second .exit)) (r .stats)) ≡ onJudged w (a .layout) (b .layout) (state (now (first .entry)) (now (second .entry)) stats) (Judged.Both (a .extent) (b .extent)) ⌝ }
 {
-    let met = pair_judgement::treat(w, first, second, p, q, stats);
+    let met = pair_judgement::treat(w, first, second, a, b, stats);
     let after = met.stats;
     if met.shared == 0 {
         return Called {
@@ -110,12 +109,15 @@ pub fn call(first: &mut [u8], second: &mut [u8], w: Strategies, stats: Correctio
             stats,
         },
         Judged::Both(p, q) => {
-            let job = Job {
-                strategies: w,
-                first: y,
-                second: z,
+            let a = Placed {
+                layout: y,
+                extent: p,
             };
-            call_both(job, first, second, p, q, stats)
+            let b = Placed {
+                layout: z,
+                extent: q,
+            };
+            call_both(w, first, second, a, b, stats)
         }
     }
 }

@@ -16,7 +16,7 @@ ghost use Prim.Native.Nat.{ℕ, _≤_};
 ghost use lib.ListN.{length};
 ghost use Rattle.fields.specs.Sound.{Sound};
 ghost use Rattle.stats.specs.Room.{Room};
-ghost use Rattle.positions.specs.Step.{state};
+ghost use Rattle.positions.specs.Step.{state, job};
 ghost use Rattle.pair_judgement.specs.Judgement.{onUses, onSpan, spanIn, judgedOf};
 ghost use Rattle.pair_judgement.specs.Ready.{Ready, TreatedTo, Cleared, TreatedAt};
 ghost use Rattle.pair_judgement.specs.Where.{whereOf};
@@ -129,32 +129,49 @@ fn none_met(g: CorrectionStats) -> Met
     }
 }
 
+// A sound record that was judged to be on a reference: where its parts lie, and the positions that it
+// covers.
+pub struct Placed {
+    pub layout: Layout,
+    pub extent: Extent,
+}
+
 // The shared positions of two records that were judged to be on one reference, treated. There are
-// none where a record has no base, or where one ends before the other begins.
+// none where a record has no base, or where one ends before the other begins. The job is made behind
+// these tests: the merge has it in memory, and records apart need not store it.
 pub fn treat(
-    w: Job,
+    w: Strategies,
     first: &mut [u8],
     second: &mut [u8],
-    p: Extent,
-    q: Extent,
+    a: Placed,
+    b: Placed,
     g: CorrectionStats,
 ) -> Met
-    requires { ⌜ Ready (w .first) (w .second) p q (now first) (now second) × Room g 131072 ⌝ }
-    ensures { λ r. ⌜ TreatedTo w (p .start) (q .start) (state (now (first .entry)) (now (second .entry)) g) (state (now (first .exit)) (now (second .exit)) (r .stats)) (r .shared) ⌝ }
+    requires { ⌜ Ready (a .layout) (b .layout) (a .extent) (b .extent) (now first) (now second) × Room g 131072 ⌝ }
+    ensures { λ r. ⌜ TreatedTo (job w (a .layout) (b .layout)) (a .extent .start) (b .extent .start) (state (now (first .entry)) (now (second .entry)) g) (state (now (first .exit)) (now (second .exit)) (r .stats)) (r .shared) ⌝ }
 {
-    if w.first.count == 0 {
+    let y = a.layout;
+    if y.count == 0 {
         return none_met(g);
     }
-    if w.second.count == 0 {
+    let z = b.layout;
+    if z.count == 0 {
         return none_met(g);
     }
+    let p = a.extent;
+    let q = b.extent;
     if p.end.0 <= q.start.0 {
         return none_met(g);
     }
     if q.end.0 <= p.start.0 {
         return none_met(g);
     }
-    pair_merge::merge(w, first, second, p.start, q.start, g)
+    let job = Job {
+        strategies: w,
+        first: y,
+        second: z,
+    };
+    pair_merge::merge(job, first, second, p.start, q.start, g)
 }
 
 // Two records that were judged and not refused, treated where they stand and not judged again: from

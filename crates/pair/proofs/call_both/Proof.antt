@@ -22,7 +22,7 @@ returns c =
     let by-treat = c .before .before .before .before .before .before .before in
     let entry = by-treat .before .before .before .before .before in
     let args = entry .args in
-    ap₂ outcome (none-met (shared (args .w .first) (args .w .second) (args .p .start) (args .q .start) (now (args .first)) (now (args .second))) (by-treat .treat .result .shared) (by-treat .treat .ensures .counted) (c .if1 .taken)) (by-treat .treat .ensures .after)
+    ap₂ outcome (none-met (shared (args .a .layout) (args .b .layout) (args .a .extent .start) (args .b .extent .start) (now (args .first)) (now (args .second))) (by-treat .treat .result .shared) (by-treat .treat .ensures .counted) (c .if1 .taken)) (by-treat .treat .ensures .after)
 
 same-length-3 : tie.Need-same-length-3
 same-length-3 c = search needs
@@ -35,7 +35,7 @@ returns-2 c =
     let by-treat = c .before .before .before .before .before .before .before in
     let entry = by-treat .before .before .before .before .before in
     let args = entry .args in
-    ap₂ outcome (some-met (shared (args .w .first) (args .w .second) (args .p .start) (args .q .start) (now (args .first)) (now (args .second))) (by-treat .treat .result .shared) (by-treat .treat .ensures .counted) (c .if1 .left)) (by-treat .treat .ensures .after)
+    ap₂ outcome (some-met (shared (args .a .layout) (args .b .layout) (args .a .extent .start) (args .b .extent .start) (now (args .first)) (now (args .second))) (by-treat .treat .result .shared) (by-treat .treat .ensures .counted) (c .if1 .left)) (by-treat .treat .ensures .after)
 
 pub call-both-spec : {M : Type 1} → statement M
 call-both-spec =
