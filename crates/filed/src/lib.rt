@@ -20,6 +20,7 @@ ghost use Rattle.group_frames.specs.Table.{FrameTable};
 ghost use Rattle.group_mates.specs.Table.{Mated};
 ghost use Rattle.filed_ending.specs.Found.{FramesEnd};
 ghost use Rattle.filed_writing.specs.Short.{Short, Tabled};
+ghost use Rattle.filed_writing.specs.Turn.{AllPassed};
 ghost use Rattle.filed_writing.specs.Written.{WrittenTo};
 ghost use Rattle.filed_trailer.specs.Trailer.{stamped};
 ghost use Rattle.filed.specs.Filed.{ended, onRaw, onEnding, filedOf};
@@ -86,7 +87,7 @@ fn write_small(
     w: Strategies,
     out: &mut [u8],
 ) -> Applied
-    requires { ⌜ FrameTable (now s) (now begins) n × Mated (now s) (now mate) n × (256 ≤ length (now lead)) × (beginOf (now s) n ≤ length (now out)) × Short (now begins) n 1024 ⌝ }
+    requires { ⌜ FrameTable (now s) (now begins) n × Mated (now s) (now mate) n × (256 ≤ length (now lead)) × (beginOf (now s) n ≤ length (now out)) × Short (now begins) n 1024 × AllPassed (now s) n ⌝ }
     ensures { λ r. ⌜ WrittenTo w (now (s .entry)) n (now (out .entry)) (now (out .exit)) r ⌝ }
 {
     let mut left = [0u8; SMALL];
@@ -104,7 +105,7 @@ fn write_large(
     w: Strategies,
     out: &mut [u8],
 ) -> Applied
-    requires { ⌜ FrameTable (now s) (now begins) n × Mated (now s) (now mate) n × (256 ≤ length (now lead)) × (beginOf (now s) n ≤ length (now out)) ⌝ }
+    requires { ⌜ FrameTable (now s) (now begins) n × Mated (now s) (now mate) n × (256 ≤ length (now lead)) × (beginOf (now s) n ≤ length (now out)) × AllPassed (now s) n ⌝ }
     ensures { λ r. ⌜ WrittenTo w (now (s .entry)) n (now (out .entry)) (now (out .exit)) r ⌝ }
 {
     let mut left = [0u8; 65536];
@@ -124,7 +125,7 @@ fn write_frames(
     out: &mut [u8],
     large: bool,
 ) -> Applied
-    requires { ⌜ FrameTable (now s) (now begins) n × Mated (now s) (now mate) n × (beginOf (now s) n ≤ length (now out)) ⌝ }
+    requires { ⌜ FrameTable (now s) (now begins) n × Mated (now s) (now mate) n × (beginOf (now s) n ≤ length (now out)) × AllPassed (now s) n ⌝ }
     ensures { λ r. ⌜ WrittenTo w (now (s .entry)) n (now (out .entry)) (now (out .exit)) r ⌝ }
 {
     let mut lead = [0usize; 256];
@@ -158,7 +159,7 @@ fn write_filed(
     w: Strategies,
     out: &mut [u8],
 ) -> Applied
-    requires { ⌜ FramesEnd (now filed) (now begins) n × (p ≡ beginOf (now filed) n) × Mated (take p (now filed)) (now mate) n × (length (now filed) ≡ p + 50) × (length (now filed) ≤ length (now out)) ⌝ }
+    requires { ⌜ FramesEnd (now filed) (now begins) n × (p ≡ beginOf (now filed) n) × Mated (take p (now filed)) (now mate) n × (length (now filed) ≡ p + 50) × (length (now filed) ≤ length (now out)) × AllPassed (take p (now filed)) n ⌝ }
     ensures { λ r. ⌜ FiledTo w (now (filed .entry)) p n (now (out .entry)) (now (out .exit)) r ⌝ }
 {
     let applied = write_frames(&filed[0..p], begins, n, mate, w, out, false);

@@ -11,22 +11,28 @@ use Rattle.stats.specs.Counts.{zeroed}
 use Rattle.strategy.specs.declared.Strategies.{Strategies}
 use Rattle.group_frames.specs.Part.{part}
 use Rattle.group_frames.specs.Frame.{beginOf, startOf, endOf, recordOf}
-use Rattle.group_mates.specs.Register.{matesOf}
+use Rattle.pair_judgement.specs.Ready.{Cleared}
+use Rattle.group_mates.specs.Register.{matesOf, pairsOf}
 use Rattle.group_mates.specs.Table.{Mated}
+use Rattle.group_verdicts.specs.Indexed.{indexedAt}
 use Rattle.group_verdicts.proofs.JudgeLaws.{mate-in}
+use Rattle.group_verdicts.proofs.IndexLaws.{passed-cleared, all-passed}
 use Rattle.group_applying.specs.declared.Applied.{Applied}
 use Rattle.filed_writing.specs.declared.Turn.{Turn}
 use Rattle.filed_writing.specs.declared.Held.{Held}
 use Rattle.filed_writing.specs.Lead.{Led}
-use Rattle.filed_writing.specs.Turn.{Turned, Stands, Wrote}
+use Rattle.filed_writing.specs.Turn.{AllPassed, Turned, Stands, Wrote}
 use Rattle.filed_writing.specs.Written.{Copied, corrected, applied, addedBy}
-use Rattle.filed_writing.proofs.RecordLaws.{first-becomes, last-becomes, alone-stays}
+use Rattle.filed_writing.proofs.RecordLaws.{made, first-becomes, last-becomes, alone-stays}
 
 abbrev pub turn : ℕ → ℕ → ℕ → Turn
 turn k f l = record { index = k; first = f; last = l }
 
 -- ---- the turn of record k, by its entries in the tables
-module _ (s mate lead : List ℕ) (n k : ℕ) (below : k < n) (u : Mated s mate n) (v : Led mate lead n) where
+module _ (s mate lead : List ℕ) (n k : ℕ) (below : k < n) (u : Mated s mate n) (v : Led mate lead n) (passed : AllPassed s n) where
+  cleared : (f i j : ℕ) → f ≡ suc i → matesOf s n i ≡ suc j → Cleared (recordOf s i) (recordOf s j)
+  cleared f i j e m = passed-cleared (recordOf s i) (recordOf s j) i j (all-passed (indexedAt s) (pairsOf s n) passed i j (made s n i j m))
+
   pub turned-first : (getD mate k 0 ≡ 0 → ⊥) → Turned s n (turn k (k + 1) (getD mate k 0))
   turned-first some = record {
     below = below;
@@ -37,6 +43,7 @@ module _ (s mate lead : List ℕ) (n k : ℕ) (below : k < n) (u : Mated s mate 
     member = λ h. inl (add-one k);
     lead = λ j e. add-one k;
     alone = λ e. absurd (omega arith);
+    cleared = cleared (k + 1);
   }
 
   module _ (none : getD mate k 0 ≡ 0) where
@@ -50,6 +57,7 @@ module _ (s mate lead : List ℕ) (n k : ℕ) (below : k < n) (u : Mated s mate 
       member = λ h. inr (add-one k);
       lead = no-mate (getD lead k 0) k;
       alone = λ e. absurd (some e);
+      cleared = cleared (getD lead k 0);
     }
 
     pub turned-alone : getD lead k 0 ≡ 0 → Turned s n (turn k 0 0)
@@ -59,6 +67,7 @@ module _ (s mate lead : List ℕ) (n k : ℕ) (below : k < n) (u : Mated s mate 
       member = λ h. absurd (h refl);
       lead = no-mate 0 k;
       alone = λ e i h m. omega (arith, v .named i k h (u .mates i h ∙ m));
+      cleared = cleared 0;
     }
 
 -- ---- the pair of a turn, and the rooms that hold it
@@ -71,6 +80,12 @@ module _ {s : List ℕ} {n : ℕ} (t : Turn) (h : Turned s n t) (some : t .first
 
   pub pair-in : (t .first - 1 < n) × (t .last - 1 < n)
   pair-in = let p = h .pair (t .first - 1) named in (p .2, omega (arith, p .1, p .3))
+
+  pub pair-cleared : Cleared (recordOf s (t .first - 1)) (recordOf s (t .last - 1))
+  pair-cleared =
+      let p = h .pair (t .first - 1) named in
+      let l : t .last - 1 ≡ p .0 = omega (arith, p .1) in
+      rw l (h .cleared (t .first - 1) (p .0) named (p .4))
 
 -- rooms hold no pair, whatever is in them
 pub stands-none : (w : Strategies) (s : List ℕ) (n f : ℕ) (left right : List ℕ) (r : Applied) → f ≡ 0 → Stands w s n f left right r

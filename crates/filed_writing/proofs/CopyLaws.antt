@@ -6,6 +6,7 @@ use native.Mathlib.Omega.{arith}
 use borrow.Rule.Slice.PartMut.{same-len-mid}
 use lib.ListN.{length, take, drop}
 use Rattle.strategy.specs.declared.Strategies.{Strategies}
+use Rattle.pair_judgement.specs.Ready.{Cleared}
 use Rattle.group_frames.specs.Part.{part, splice}
 use Rattle.group_frames.proofs.PartLaws.{length-part, part-put}
 use Rattle.group_applying.specs.declared.Applied.{Applied}
@@ -40,17 +41,20 @@ module _ (room a c : List ℕ) (fits : length a ≤ length room) (same : c ≡ a
       ap (λ (k : ℕ). take k (splice (splice room 0 (length a) c) 0 (length a) f)) (sym z)
       ∙ part-put (splice room 0 (length a) c) f 0 (length a) (omega arith) i (l ∙ length-part (splice room 0 (length a) c) 0 (length a) (omega arith) i)
 
--- ---- both rooms after the call
-pub copied : (w : Strategies) (a b left right c d : List ℕ) → length a ≤ length left → length b ≤ length right → c ≡ a → d ≡ b
-    → (r : Applied) (f v : List ℕ)
-    → Treats w (part (splice left 0 (length a) c) 0 (length a)) (part (splice right 0 (length b) d) 0 (length b)) f v r
-    → length f ≡ length (part (splice left 0 (length a) c) 0 (length a))
-    → length v ≡ length (part (splice right 0 (length b) d) 0 (length b))
-    → Copied w a b (splice (splice left 0 (length a) c) 0 (length a) f) (splice (splice right 0 (length b) d) 0 (length b) v) r
-copied w a b left right c d ha hb ec ed r f v q lf lv =
-    let t : Treats w a b f v r = rw (front-is left a c ha ec, front-is right b d hb ed) at q in
-    record {
-      first = front-put left a c ha ec f lf ∙ t .first;
-      second = front-put right b d hb ed v lv ∙ t .second;
-      adds = t .adds;
-    }
+-- ---- both rooms before and after two copies are treated
+module _ (w : Strategies) (a b left right c d : List ℕ) (ha : length a ≤ length left) (hb : length b ≤ length right) (ec : c ≡ a) (ed : d ≡ b) where
+  pub copies-cleared : Cleared a b → Cleared (part (splice left 0 (length a) c) 0 (length a)) (part (splice right 0 (length b) d) 0 (length b))
+  copies-cleared k = rw (front-is left a c ha ec, front-is right b d hb ed) k
+
+  pub copied : (r : Applied) (f v : List ℕ)
+      → Treats w (part (splice left 0 (length a) c) 0 (length a)) (part (splice right 0 (length b) d) 0 (length b)) f v r
+      → length f ≡ length (part (splice left 0 (length a) c) 0 (length a))
+      → length v ≡ length (part (splice right 0 (length b) d) 0 (length b))
+      → Copied w a b (splice (splice left 0 (length a) c) 0 (length a) f) (splice (splice right 0 (length b) d) 0 (length b) v) r
+  copied r f v q lf lv =
+      let t : Treats w a b f v r = rw (front-is left a c ha ec, front-is right b d hb ed) at q in
+      record {
+        first = front-put left a c ha ec f lf ∙ t .first;
+        second = front-put right b d hb ed v lv ∙ t .second;
+        adds = t .adds;
+      }

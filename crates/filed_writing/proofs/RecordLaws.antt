@@ -28,18 +28,19 @@ getD-part xs a e i h = getD-take (e - a) (drop a xs) i 0 h ∙ getD-drop a xs i 
 first-below : (s : List ℕ) (n i k : ℕ) → matesOf s n i ≡ suc k → i < n
 first-below s n i k e = omega (arith, mated (roleAt s) (nameAt s) n i k e .held, holder-le (roleAt s) (nameAt s) 1 (nameAt s i) n)
 
+-- its pair is one of the group's
+pub made : (s : List ℕ) (n i j : ℕ) → matesOf s n i ≡ suc j → Among (pairsOf s n) i j
+made s n i j e = made-among (matesOf s n) n 0 i j (record { low = omega arith; high = omega (arith, first-below s n i j e); made = e })
+
 module _ (w : Strategies) (s : List ℕ) (n : ℕ) (fit : beginOf s n ≤ length s) where
   pub corrected-size : length (corrected w s n) ≡ length s
   corrected-size = written-size w s n fit (pairsOf s n) s refl (pairs-once s n)
 
-  made : (i j : ℕ) → matesOf s n i ≡ suc j → Among (pairsOf s n) i j
-  made i j e = made-among (matesOf s n) n 0 i j (record { low = omega arith; high = omega (arith, first-below s n i j e); made = e })
-
   pub first-becomes : (k j : ℕ) → matesOf s n k ≡ suc j → part (corrected w s n) (startOf s k) (endOf s k) ≡ pairAt w s k j .after .first
-  first-becomes k j e = written-first w s n fit (pairsOf s n) s refl (pairs-once s n) k j (made k j e)
+  first-becomes k j e = written-first w s n fit (pairsOf s n) s refl (pairs-once s n) k j (made s n k j e)
 
   pub last-becomes : (i k : ℕ) → matesOf s n i ≡ suc k → part (corrected w s n) (startOf s k) (endOf s k) ≡ pairAt w s i k .after .second
-  last-becomes i k e = written-second w s n fit (pairsOf s n) s refl (pairs-once s n) i k (made i k e)
+  last-becomes i k e = written-second w s n fit (pairsOf s n) s refl (pairs-once s n) i k (made s n i k e)
 
   pub alone-stays : (k : ℕ) → matesOf s n k ≡ 0 → ((i : ℕ) → i < n → matesOf s n i ≡ suc k → ⊥) → part (corrected w s n) (startOf s k) (endOf s k) ≡ recordOf s k
   alone-stays k z none =

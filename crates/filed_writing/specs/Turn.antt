@@ -5,22 +5,31 @@ use mathlib.Core.Logic.{_⊎_}
 use mathlib.Core.List.{List}
 use lib.ListN.{length, take, drop}
 use Rattle.strategy.specs.declared.Strategies.{Strategies}
+use Rattle.pair_judgement.specs.Ready.{Cleared}
 use Rattle.group_frames.specs.Part.{part, splice}
 use Rattle.group_frames.specs.Frame.{endOf, recordOf}
-use Rattle.group_mates.specs.Register.{matesOf}
+use Rattle.group_mates.specs.Register.{matesOf, pairsOf}
+use Rattle.group_verdicts.specs.declared.Verdict.the-variants.{Passed}
+use Rattle.group_verdicts.specs.Judged.{judgeBy}
+use Rattle.group_verdicts.specs.Indexed.{indexedAt}
 use Rattle.group_applying.specs.declared.Applied.{Applied}
 use Rattle.filed_writing.specs.declared.Turn.{Turn}
 use Rattle.filed_writing.specs.declared.Held.{Held}
 use Rattle.filed_writing.specs.Short.{Short}
 use Rattle.filed_writing.specs.Written.{Copied, corrected, Front, addedBy}
 
--- t has the index of one of the n records of s, and one more than the indexes of the two of its pair; 0: it is in none
+-- every pair of the n records of s was judged, and none is refused
+abbrev pub AllPassed : List ℕ → ℕ → Type 0
+AllPassed s n = judgeBy (indexedAt s) (pairsOf s n) ≡ Passed
+
+-- t has the index of one of the n records of s, and one more than the indexes of the two of its pair, which passed; 0: it is in none
 pub record Turned (s : List ℕ) (n : ℕ) (t : Turn) : Type 0 where
   pub below : t .index < n
   pub pair : (i : ℕ) → t .first ≡ suc i → (j : ℕ) × (t .last ≡ suc j) × (i < n) × (j < n) × (matesOf s n i ≡ suc j)
   pub member : (t .first ≡ 0 → ⊥) → (t .first ≡ suc (t .index)) ⊎ (t .last ≡ suc (t .index))
   pub lead : (j : ℕ) → matesOf s n (t .index) ≡ suc j → t .first ≡ suc (t .index)
   pub alone : t .first ≡ 0 → (i : ℕ) → i < n → matesOf s n i ≡ suc (t .index) → ⊥
+  pub cleared : (i j : ℕ) → t .first ≡ suc i → matesOf s n i ≡ suc j → Cleared (recordOf s i) (recordOf s j)
 
 -- each room takes any one of the n records
 abbrev pub Rooms : List ℕ → ℕ → List ℕ → List ℕ → Type 0

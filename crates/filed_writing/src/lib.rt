@@ -6,19 +6,18 @@ use stats::CorrectionStats;
 use strategy::Strategies;
 ghost use mathlib.Core.Path.{_≡_};
 ghost use Prim.Native.Nat.{ℕ, _+_, _-_, _<_, _≤_};
-ghost use mathlib.Core.Bool.{cond};
 ghost use mathlib.Core.List.{List};
-ghost use lib.Dec.{eqb};
 ghost use lib.ListN.{length, getD};
 ghost use Rattle.stats.specs.Counts.{zeroed};
+ghost use Rattle.pair_judgement.specs.Ready.{Cleared};
 ghost use Rattle.group_frames.specs.Part.{part, splice};
 ghost use Rattle.group_frames.specs.Frame.{beginOf, endOf, recordOf};
 ghost use Rattle.group_frames.specs.Table.{FrameTable};
 ghost use Rattle.group_mates.specs.Table.{Mated};
-ghost use Rattle.group_applying.specs.Within.{startIn, endIn};
+ghost use Rattle.group_applying.specs.Within.{startIn, endIn, overlapOf};
 ghost use Rattle.filed_writing.specs.Lead.{Pairing, Led};
 ghost use Rattle.filed_writing.specs.Short.{Short};
-ghost use Rattle.filed_writing.specs.Turn.{Turned, Rooms, Stands, framed, Wrote};
+ghost use Rattle.filed_writing.specs.Turn.{AllPassed, Turned, Rooms, Stands, framed, Wrote};
 ghost use Rattle.filed_writing.specs.Written.{Treats, Copied, corrected, Front, applied, WrittenTo};
 
 // Empties the first n entries of the table.
@@ -51,31 +50,25 @@ fn enter_leads(mate: &[usize], n: usize, lead: &mut [usize])
     }
 }
 
-// What the answer of a pair call adds to the number of overlapping pairs.
-fn overlaps(code: u32) -> usize
-    ensures { λ r. ⌜ r ≡ cond (eqb code 1) 1 0 ⌝ }
+// What a pair that shares so many positions adds to the number of overlapping ones.
+fn overlaps(shared: usize) -> usize
+    ensures { λ r. ⌜ r ≡ overlapOf shared ⌝ }
 {
-    if code == 1 {
-        return 1;
+    if shared == 0 {
+        return 0;
     }
-    0
+    1
 }
 
-// The pair call on two records, its counts begun at 0, and what the pair adds.
+// Two records that were judged as a pair, treated with counts from 0 as the pair call treats them, and what the pair
+// adds.
 fn treat(first: &mut [u8], second: &mut [u8], w: Strategies) -> Applied
+    requires { ⌜ Cleared (now first) (now second) ⌝ }
     ensures { λ r. ⌜ Treats w (now (first .entry)) (now (second .entry)) (now (first .exit)) (now (second .exit)) r ⌝ }
 {
-    let numbers = strategy::numbers_of(w);
-    let mut counts = [0u8; 32];
-    let code = pair_code::call(
-        first,
-        second,
-        numbers.agreement,
-        numbers.disagreement,
-        &mut counts,
-    );
-    let growth = stats::counts_at(&counts, 0);
-    let overlapping = overlaps(code);
+    let met = pair_judgement::treat_judged(w, first, second, CorrectionStats::new());
+    let growth = met.stats;
+    let overlapping = overlaps(met.shared);
     Applied {
         pairs: 1,
         overlapping,
@@ -122,7 +115,7 @@ fn copy_record(src: &[u8], dst: &mut [u8])
     copy_block(src, dst, last);
 }
 
-// The pair call on copies of two records, and what the pair adds.
+// Copies of two records that were judged as a pair, treated, and what the pair adds.
 fn treat_copies(
     first: &[u8],
     second: &[u8],
@@ -130,7 +123,7 @@ fn treat_copies(
     left: &mut [u8],
     right: &mut [u8],
 ) -> Applied
-    requires { ⌜ (32 ≤ length (now first)) × (32 ≤ length (now second)) × (length (now first) ≤ length (now left)) × (length (now second) ≤ length (now right)) ⌝ }
+    requires { ⌜ Cleared (now first) (now second) × (length (now first) ≤ length (now left)) × (length (now second) ≤ length (now right)) ⌝ }
     ensures { λ r. ⌜ Copied w (now (first .entry)) (now (second .entry)) (now (left .exit)) (now (right .exit)) r ⌝ }
 {
     let n = first.len();
@@ -140,7 +133,7 @@ fn treat_copies(
     treat(&mut left[0..n], &mut right[0..m], w)
 }
 
-// The pair call on copies of records i and j of a group.
+// Copies of records i and j of a group, which were judged as a pair, treated.
 fn treat_pair(
     s: &[u8],
     begins: &[usize],
@@ -151,7 +144,7 @@ fn treat_pair(
     left: &mut [u8],
     right: &mut [u8],
 ) -> Applied
-    requires { ⌜ FrameTable (now s) (now begins) n × (i < n) × (j < n) × Rooms (now begins) n (now left) (now right) ⌝ }
+    requires { ⌜ FrameTable (now s) (now begins) n × (i < n) × (j < n) × Rooms (now begins) n (now left) (now right) × Cleared (recordOf (now s) i) (recordOf (now s) j) ⌝ }
     ensures { λ r. ⌜ Copied w (recordOf (now (s .entry)) i) (recordOf (now (s .entry)) j) (now (left .exit)) (now (right .exit)) r ⌝ }
 {
     let first = group_frames::record_at(s, begins, i);
@@ -181,7 +174,7 @@ struct Turn {
 // The turn of record k, by the tables of mates and leads.
 fn turn_of(mate: &[usize], lead: &[usize], k: usize) -> Turn
     requires { ⌜ (k < 256) × (256 ≤ length (now mate)) × (256 ≤ length (now lead)) ⌝ }
-    ensures { λ r. ⌜ (r .index ≡ k) × ((s : List ℕ) (n : ℕ) → k < n → Mated s (now (mate .entry)) n → Led (now (mate .entry)) (now (lead .entry)) n → Turned s n r) ⌝ }
+    ensures { λ r. ⌜ (r .index ≡ k) × ((s : List ℕ) (n : ℕ) → k < n → Mated s (now (mate .entry)) n → Led (now (mate .entry)) (now (lead .entry)) n → AllPassed s n → Turned s n r) ⌝ }
 {
     let m = mate[k];
     if m != 0 {
@@ -294,8 +287,8 @@ fn added_at(t: Turn, held: Held) -> Applied
     no_pair()
 }
 
-// Writes the n records of a group, each pair corrected, from the start of `out` on. `lead` is room for
-// a table, `left` and `right` each for any one record.
+// Writes the n records of a group, each pair corrected, from the start of `out` on; all were judged, and none refused.
+// `lead` is room for a table, `left` and `right` each for any one record.
 pub fn write_all(
     s: &[u8],
     begins: &[usize],
@@ -307,7 +300,7 @@ pub fn write_all(
     right: &mut [u8],
     out: &mut [u8],
 ) -> Applied
-    requires { ⌜ FrameTable (now s) (now begins) n × Mated (now s) (now mate) n × (256 ≤ length (now lead)) × Short (now begins) n (length (now left)) × Short (now begins) n (length (now right)) × (beginOf (now s) n ≤ length (now out)) ⌝ }
+    requires { ⌜ FrameTable (now s) (now begins) n × Mated (now s) (now mate) n × (256 ≤ length (now lead)) × Short (now begins) n (length (now left)) × Short (now begins) n (length (now right)) × (beginOf (now s) n ≤ length (now out)) × AllPassed (now s) n ⌝ }
     ensures { λ r. ⌜ WrittenTo w (now (s .entry)) n (now (out .entry)) (now (out .exit)) r ⌝ }
 {
     enter_leads(mate, n, lead);

@@ -57,7 +57,7 @@ write-frames-write-large-requires : (t : ℕ) → write-frames-lts.Need-write-la
 ) (write-frames-at t) write-frames.Post
 write-frames-write-large-requires t c κs =
     let pre = c .before .before .before .before .before .before .before .pre .1 in
-    (pre .0, pre .1, search needs, pre .2)
+    (pre .0, pre .1, search needs, pre .2, pre .3)
 
 write-frames-same-length : (t : ℕ) → write-frames-lts.Need-same-length (
   write-large-reads.Asked,
@@ -122,7 +122,7 @@ write-frames-write-small-requires : (t : ℕ) → write-frames-lts.Need-write-sm
 ) (write-frames-at t) write-frames.Post
 write-frames-write-small-requires t c κs =
     let pre = c .before .before .before .before .before .before .before .before .before .pre .1 in
-    (pre .0, pre .1, search needs, pre .2, c .before .before .before .small .ensures .0 (c .before .before .if2 .taken))
+    (pre .0, pre .1, search needs, pre .2, c .before .before .before .small .ensures .0 (c .before .before .if2 .taken), pre .3)
 
 write-frames-same-length-2 : (t : ℕ) → write-frames-lts.Need-same-length-2 (
   write-large-reads.Asked,

@@ -1,4 +1,5 @@
 -- `filed::correct_raw` meets its contract. Assumes nothing.
+use mathlib.Core.Path.{sym, _∙_}
 use native.Mathlib.Omega.{arith}
 use lib.ListN.{take}
 use Rattle.filed.proofs.WriteLaws.{front-part, front-placed, front-whole, growth-adds}
@@ -108,10 +109,13 @@ slice-aggregate-write-filed c = search needs
 
 write-filed-requires : tie.Need-write-filed-requires
 write-filed-requires c κs =
-    let by-find = c .before .before .before .before .before .before .before .before .before in
+    let by-enum-told2 = c .before .before .before in
+    let by-judge-all = by-enum-told2 .before .before in
+    let by-find = by-judge-all .before .before .before .before in
     let entry = by-find .before .before .before .before .before .before .before .before .before .before in
     let args = entry .args in
-    ((entry .pre .0), (entry .pre .1), rw (front-part (now (args .filed)) (args .p)) at (by-find .find .ensures), (entry .pre .2), omega arith)
+    let front = front-part (now (args .filed)) (args .p) in
+    (entry .pre .0, entry .pre .1, rw front at (by-find .find .ensures), entry .pre .2, omega arith, sym (rw front at (by-judge-all .judge-all .ensures)) ∙ by-enum-told2 .enum-told2 .given .1)
 
 written-requires : tie.Need-written-requires
 written-requires c κs =

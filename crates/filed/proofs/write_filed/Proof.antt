@@ -27,6 +27,7 @@ write-frames-requires c κs =
       front-placed filed begins (args .n) (args .p) (entry .pre .0) (entry .pre .1),
       rw (sym (front-part filed (args .p))) at (entry .pre .2),
       omega (arith, front-end filed begins (args .n) (args .p) (entry .pre .0) (entry .pre .1), entry .pre .3, entry .pre .4),
+      rw (sym (front-part filed (args .p))) at (entry .pre .5),
     )
 
 put-trailer-requires : tie.Need-put-trailer-requires

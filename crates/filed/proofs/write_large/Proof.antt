@@ -25,6 +25,7 @@ write-all-requires c κs =
       short-enough s begins (args .n) (entry .pre .0) _ (omega arith),
       short-enough s begins (args .n) (entry .pre .0) _ (omega arith),
       entry .pre .3,
+      entry .pre .4,
     )
 
 same-length : tie.Need-same-length

@@ -1,7 +1,7 @@
 -- `filed_writing::hold` meets its contract. Assumes nothing.
 use native.Mathlib.Omega.{arith}
 use borrow.Author.Needs.{needs}
-use Rattle.filed_writing.proofs.ChosenLaws.{last-some, pair-in, stands-none, stands-treated}
+use Rattle.filed_writing.proofs.ChosenLaws.{last-some, pair-in, pair-cleared, stands-none, stands-treated}
 use Rattle.filed_writing.proofs.hold.Statement.{statement}
 use Rattle.filed_writing.proofs.hold.Tie as tie
 
@@ -28,9 +28,9 @@ sub-treat-pair-2 c =
 treat-pair-requires : tie.Need-treat-pair-requires
 treat-pair-requires c κs =
     let entry = c .before .before .before .before .before .before .before .before .before .before .before .before .before in
-    let args = entry .args in
-    let both = pair-in (args .t) (entry .pre .1) (c .before .before .before .before .before .before .before .if1 .left) in
-    (entry .pre .0, omega (arith, both .0, both .1), omega (arith, both .0, both .1), entry .pre .2)
+    let some = c .before .before .before .before .before .before .before .if1 .left in
+    let both = pair-in (entry .args .t) (entry .pre .1) some in
+    (entry .pre .0, both .0, both .1, entry .pre .2, pair-cleared (entry .args .t) (entry .pre .1) some)
 
 same-length : tie.Need-same-length
 same-length c = search needs

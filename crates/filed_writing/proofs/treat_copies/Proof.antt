@@ -1,5 +1,5 @@
 -- `filed_writing::treat_copies` meets its contract. Assumes nothing.
-use Rattle.filed_writing.proofs.CopyLaws.{copied}
+use Rattle.filed_writing.proofs.CopyLaws.{copies-cleared, copied}
 use denote.Ref.{now}
 use borrow.Author.Needs.{needs}
 use Rattle.filed_writing.proofs.treat_copies.Statement.{statement}
@@ -15,7 +15,9 @@ part-copy-record-end : tie.Need-part-copy-record-end
 part-copy-record-end c = search needs
 
 copy-record-requires : tie.Need-copy-record-requires
-copy-record-requires c κs = search needs
+copy-record-requires c κs =
+    let entry = c .before .before .before .before .before in
+    (entry .pre .0 .first .fixed, search needs)
 
 sub-copy-record-2 : tie.Need-sub-copy-record-2
 sub-copy-record-2 c = search needs
@@ -27,7 +29,9 @@ part-copy-record-end-2 : tie.Need-part-copy-record-end-2
 part-copy-record-end-2 c = search needs
 
 copy-record-requires-2 : tie.Need-copy-record-requires-2
-copy-record-requires-2 c κs = search needs
+copy-record-requires-2 c κs =
+    let entry = c .before .before .before .before .before .before .before .before .before in
+    (entry .pre .0 .second .fixed, search needs)
 
 sub-treat : tie.Need-sub-treat
 sub-treat c = search needs
@@ -48,7 +52,13 @@ part-treat-end-2 : tie.Need-part-treat-end-2
 part-treat-end-2 c = search needs
 
 treat-requires : tie.Need-treat-requires
-treat-requires c κs = search needs
+treat-requires c κs =
+    let by-copy2 = c .before .before .before .before in
+    let by-copy = by-copy2 .before .before .before .before in
+    let entry = by-copy .before .before .before .before .before .before in
+    let args = entry .args in
+    copies-cleared (args .w) (now (args .first)) (now (args .second)) (now (args .left)) (now (args .right)) _ _ (entry .pre .1) (entry .pre .2)
+    (by-copy .copy-record .ensures) (by-copy2 .copy-record2 .ensures) (entry .pre .0)
 
 same-length : tie.Need-same-length
 same-length c = search needs
@@ -63,7 +73,7 @@ returns c =
     let by-copy = by-copy2 .before .before .before .before in
     let entry = by-copy .before .before .before .before .before .before in
     let args = entry .args in
-    copied (args .w) (now (args .first)) (now (args .second)) (now (args .left)) (now (args .right)) _ _ (entry .pre .2) (entry .pre .3)
+    copied (args .w) (now (args .first)) (now (args .second)) (now (args .left)) (now (args .right)) _ _ (entry .pre .1) (entry .pre .2)
     (by-copy .copy-record .ensures) (by-copy2 .copy-record2 .ensures) (by-treat .treat .result)
     (by-treat .treat .last .0) (by-treat .treat .last .1 .0) (by-treat .treat .ensures) (by-treat .treat .kept .0)
     (by-treat .treat .kept .1 .0)

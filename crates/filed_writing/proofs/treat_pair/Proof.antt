@@ -22,8 +22,7 @@ treat-copies-requires c κs =
     let entry = by-record-at .before .before .before .before .before in
     let args = entry .args in
     let s = now (args .s) in (
-      rw (by-record-at .record-at .ensures) (entry .pre .0 .sound (args .i) (entry .pre .1) .fixed),
-      rw (by-record-at2 .record-at2 .ensures) (entry .pre .0 .sound (args .j) (entry .pre .2) .fixed),
+      rw (by-record-at .record-at .ensures, by-record-at2 .record-at2 .ensures) (entry .pre .4),
       rw (by-record-at .record-at .ensures) (in-room s _ (args .n) (entry .pre .0) (args .i) (entry .pre .1) _ (entry .pre .3 .0 (args .i) (entry .pre .1))),
       rw (by-record-at2 .record-at2 .ensures) (in-room s _ (args .n) (entry .pre .0) (args .j) (entry .pre .2) _ (entry .pre .3 .1 (args .j) (entry .pre .2))),
     )

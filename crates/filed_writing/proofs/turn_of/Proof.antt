@@ -18,7 +18,7 @@ add-t10 c = search needs
 returns : tie.Need-returns
 returns c =
     let entry = c .before .before in
-    (refl, λ s n below u v. turned-first s (now (entry .args .mate)) (now (entry .args .lead)) n (entry .args .k) below u v (c .if1 .taken))
+    (refl, λ s n below u v a. turned-first s (now (entry .args .mate)) (now (entry .args .lead)) n (entry .args .k) below u v a (c .if1 .taken))
 
 mul-f : tie.Need-mul-f
 mul-f c = search needs
@@ -33,13 +33,13 @@ returns-2 : tie.Need-returns-2
 returns-2 c =
     let by-if1 = c .before .before in
     let entry = by-if1 .before .before in
-    (refl, λ s n below u v. turned-last s (now (entry .args .mate)) (now (entry .args .lead)) n (entry .args .k) below u v (by-if1 .if1 .left) (c .if2 .taken))
+    (refl, λ s n below u v a. turned-last s (now (entry .args .mate)) (now (entry .args .lead)) n (entry .args .k) below u v a (by-if1 .if1 .left) (c .if2 .taken))
 
 returns-3 : tie.Need-returns-3
 returns-3 c =
     let by-if1 = c .before .before in
     let entry = by-if1 .before .before in
-    (refl, λ s n below u v. turned-alone s (now (entry .args .mate)) (now (entry .args .lead)) n (entry .args .k) below u v (by-if1 .if1 .left) (c .if2 .left))
+    (refl, λ s n below u v a. turned-alone s (now (entry .args .mate)) (now (entry .args .lead)) n (entry .args .k) below u v a (by-if1 .if1 .left) (c .if2 .left))
 
 pub turn-of-spec : {M : Type 1} → statement M
 turn-of-spec =

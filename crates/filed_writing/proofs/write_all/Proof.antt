@@ -60,7 +60,7 @@ write-record-requires c κs =
     let by-enter-leads = turn .before .before .before .before .before in
     let entry = by-enter-leads .before .before .before .before .before .before .before .before .before in
     let args = entry .args in
-    let turned = by-turn-of .turn-of .ensures .1 (now (args .s)) (args .n) (by-loop-test .loop-test .taken) (entry .pre .1) (by-enter-leads .enter-leads .ensures) in
+    let turned = by-turn-of .turn-of .ensures .1 (now (args .s)) (args .n) (by-loop-test .loop-test .taken) (entry .pre .1) (by-enter-leads .enter-leads .ensures) (entry .pre .6) in
     let index = by-turn-of .turn-of .ensures .0 in (
       entry .pre .0,
       turned,
@@ -87,7 +87,7 @@ add-pairs c =
     let by-enter-leads = turn .before .before .before .before .before in
     let entry = by-enter-leads .before .before .before .before .before .before .before .before .before in
     let args = entry .args in
-    let turned = by-turn-of .turn-of .ensures .1 (now (args .s)) (args .n) (by-loop-test .loop-test .taken) (entry .pre .1) (by-enter-leads .enter-leads .ensures) in
+    let turned = by-turn-of .turn-of .ensures .1 (now (args .s)) (args .n) (by-loop-test .loop-test .taken) (entry .pre .1) (by-enter-leads .enter-leads .ensures) (entry .pre .6) in
     let step = turn-step (args .w) (now (args .s)) (args .n) (entry .pre .0 .fit) (loop .k) (by-loop-test .loop-test .taken) _ (by-turn-of .turn-of .ensures .0) turned
     _ _ _ (by-write-record .write-record .ensures .0) (loop .sum) (loop .pairs) (loop .overlapping) (loop .inv .1) _ (by-added-at .added-at .ensures .0) (by-added-at .added-at .ensures .1) in
     omega (arith, step .pairs)
@@ -103,7 +103,7 @@ add-overlapping c =
     let by-enter-leads = turn .before .before .before .before .before in
     let entry = by-enter-leads .before .before .before .before .before .before .before .before .before in
     let args = entry .args in
-    let turned = by-turn-of .turn-of .ensures .1 (now (args .s)) (args .n) (by-loop-test .loop-test .taken) (entry .pre .1) (by-enter-leads .enter-leads .ensures) in
+    let turned = by-turn-of .turn-of .ensures .1 (now (args .s)) (args .n) (by-loop-test .loop-test .taken) (entry .pre .1) (by-enter-leads .enter-leads .ensures) (entry .pre .6) in
     let step = turn-step (args .w) (now (args .s)) (args .n) (entry .pre .0 .fit) (loop .k) (by-loop-test .loop-test .taken) _ (by-turn-of .turn-of .ensures .0) turned
     _ _ _ (by-write-record .write-record .ensures .0) (loop .sum) (loop .pairs) (loop .overlapping) (loop .inv .1) _ (by-added-at .added-at .ensures .0) (by-added-at .added-at .ensures .1) in
     omega (arith, step .overlapping)
@@ -119,7 +119,7 @@ plus-requires c κs =
     let by-enter-leads = turn .before .before .before .before .before in
     let entry = by-enter-leads .before .before .before .before .before .before .before .before .before in
     let args = entry .args in
-    let turned = by-turn-of .turn-of .ensures .1 (now (args .s)) (args .n) (by-loop-test .loop-test .taken) (entry .pre .1) (by-enter-leads .enter-leads .ensures) in
+    let turned = by-turn-of .turn-of .ensures .1 (now (args .s)) (args .n) (by-loop-test .loop-test .taken) (entry .pre .1) (by-enter-leads .enter-leads .ensures) (entry .pre .6) in
     let step = turn-step (args .w) (now (args .s)) (args .n) (entry .pre .0 .fit) (loop .k) (by-loop-test .loop-test .taken) _ (by-turn-of .turn-of .ensures .0) turned
     _ _ _ (by-write-record .write-record .ensures .0) (loop .sum) (loop .pairs) (loop .overlapping) (loop .inv .1) _ (by-added-at .added-at .ensures .0) (by-added-at .added-at .ensures .1) in
     step .adds
@@ -144,7 +144,7 @@ loop-again c =
     let by-enter-leads = turn .before .before .before .before .before in
     let entry = by-enter-leads .before .before .before .before .before .before .before .before .before in
     let args = entry .args in
-    let turned = by-turn-of .turn-of .ensures .1 (now (args .s)) (args .n) (by-loop-test .loop-test .taken) (entry .pre .1) (by-enter-leads .enter-leads .ensures) in
+    let turned = by-turn-of .turn-of .ensures .1 (now (args .s)) (args .n) (by-loop-test .loop-test .taken) (entry .pre .1) (by-enter-leads .enter-leads .ensures) (entry .pre .6) in
     let step = turn-step (args .w) (now (args .s)) (args .n) (entry .pre .0 .fit) (loop .k) (by-loop-test .loop-test .taken) _ (by-turn-of .turn-of .ensures .0) turned
     _ _ _ (by-write-record .write-record .ensures .0) (loop .sum) (loop .pairs) (loop .overlapping) (loop .inv .1) _ (by-added-at .added-at .ensures .0) (by-added-at .added-at .ensures .1) in
     let kept = by-write-record .write-record .kept in (
