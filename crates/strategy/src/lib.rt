@@ -205,48 +205,6 @@ fn disagreement_of(n: u32) -> DisagreementStrategy
     }
 }
 
-// The number that stands for a strategy of agreement.
-fn agreement_number(m: AgreementStrategy) -> u32
-    ensures { λ r. ⌜ some m ≡ agreementOf r ⌝ }
-{
-    match m {
-        AgreementStrategy::Consensus => 0,
-        AgreementStrategy::MaxQual => 1,
-        AgreementStrategy::PassThrough => 2,
-    }
-}
-
-// The number that stands for a strategy of disagreement.
-fn disagreement_number(k: DisagreementStrategy) -> u32
-    ensures { λ r. ⌜ some k ≡ disagreementOf r ⌝ }
-{
-    match k {
-        DisagreementStrategy::Consensus => 0,
-        DisagreementStrategy::MaskBoth => 1,
-        DisagreementStrategy::MaskLowerQual => 2,
-    }
-}
-
-// The numbers of the two strategies of a call, as a host hands them in.
-pub struct Numbers {
-    pub agreement: u32,
-    pub disagreement: u32,
-}
-
-// The numbers that stand for both strategies.
-pub fn numbers_of(w: Strategies) -> Numbers
-    ensures { λ r. ⌜ Numbered.Are w ≡ numberedOf (r .agreement) (r .disagreement) ⌝ }
-{
-    let m = w.agreement;
-    let k = w.disagreement;
-    let agreement = agreement_number(m);
-    let disagreement = disagreement_number(k);
-    Numbers {
-        agreement,
-        disagreement,
-    }
-}
-
 // The strategies that two numbers stand for. Refused where either is not 0 to 2.
 pub fn by_number(agreement: u32, disagreement: u32) -> Numbered
     ensures { λ r. ⌜ r ≡ numberedOf agreement disagreement ⌝ }
