@@ -254,7 +254,7 @@ pub fn correct(filed: &[u8], out: &mut [u8], stats: CorrectionStats) -> Filed
     if stats.full() {
         return refused(Refusal::Count, stats);
     }
-    let mut begins = [0usize; 257];
+    let mut begins = [1usize; 257];
     let e = filed_ending::cut(filed, &mut begins);
     match e {
         Ending::Broken(r) => refused(r, stats),

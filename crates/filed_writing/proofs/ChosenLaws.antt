@@ -6,8 +6,6 @@ use mathlib.Core.Logic.{_⊎_, inl, inr, ⊎-elim}
 use native.Mathlib.Numerals.{add-one}
 use native.Mathlib.Omega.{arith}
 use lib.ListN.{length, getD, take}
-use Rattle.fields.proofs.Arith.{eq-or-ne}
-use Rattle.stats.specs.Counts.{zeroed}
 use Rattle.strategy.specs.declared.Strategies.{Strategies}
 use Rattle.group_frames.specs.Part.{part}
 use Rattle.group_frames.specs.Frame.{beginOf, startOf, endOf, recordOf}
@@ -19,10 +17,9 @@ use Rattle.group_verdicts.proofs.JudgeLaws.{mate-in}
 use Rattle.group_verdicts.proofs.IndexLaws.{passed-cleared, all-passed}
 use Rattle.group_applying.specs.declared.Applied.{Applied}
 use Rattle.filed_writing.specs.declared.Turn.{Turn}
-use Rattle.filed_writing.specs.declared.Held.{Held}
 use Rattle.filed_writing.specs.Lead.{Led}
-use Rattle.filed_writing.specs.Turn.{AllPassed, Turned, Stands, Wrote}
-use Rattle.filed_writing.specs.Written.{Copied, corrected, applied, addedBy}
+use Rattle.filed_writing.specs.Turn.{AllPassed, Turned, Stands}
+use Rattle.filed_writing.specs.Written.{Copied, corrected, addedBy}
 use Rattle.filed_writing.proofs.RecordLaws.{made, first-becomes, last-becomes, alone-stays}
 
 abbrev pub turn : ℕ → ℕ → ℕ → Turn
@@ -87,6 +84,14 @@ module _ {s : List ℕ} {n : ℕ} (t : Turn) (h : Turned s n t) (some : t .first
       let l : t .last - 1 ≡ p .0 = omega (arith, p .1) in
       rw l (h .cleared (t .first - 1) (p .0) named (p .4))
 
+-- a record that is named as no first has no mate
+pub mateless : {s : List ℕ} {n : ℕ} (t : Turn) → Turned s n t → (t .first ≡ suc (t .index) → ⊥) → matesOf s n (t .index) ≡ 0
+mateless {s} {n} t h d = go (matesOf s n (t .index)) refl
+  where
+    go : (m : ℕ) → matesOf s n (t .index) ≡ m → m ≡ 0
+    go zero e = refl
+    go (suc j) e = absurd (d (h .lead j e))
+
 -- rooms hold no pair, whatever is in them
 pub stands-none : (w : Strategies) (s : List ℕ) (n f : ℕ) (left right : List ℕ) (r : Applied) → f ≡ 0 → Stands w s n f left right r
 stands-none w s n f left right r z = record { pair = λ i j e m. absurd (omega arith) }
@@ -129,22 +134,4 @@ module _ (w : Strategies) (s : List ℕ) (n : ℕ) (fit : beginOf s n ≤ length
         a .pair i k e m .second ∙ sym (last-becomes w s n fit i k m)
 
   pub alone-due : t .first ≡ 0 → recordOf s (t .index) ≡ part (corrected w s n) (startOf s (t .index)) (endOf s (t .index))
-  alone-due z =
-      let none : matesOf s n k ≡ 0 = no-first (matesOf s n k) refl in
-      sym (alone-stays w s n fit k none (h .alone z))
-    where
-      no-first : (m : ℕ) → matesOf s n k ≡ m → m ≡ 0
-      no-first zero e = refl
-      no-first (suc j) e = absurd (omega (arith, h .lead j e))
-
-  -- what is added for a record, if it is what its pair adds for a first and nothing else
-  pub adds-as : (out out′ : List ℕ) (g : Held) → Wrote w s n t out out′ g
-      → (r : Applied) → (t .first ≡ t .index + 1 → r ≡ g .added) → ((t .first ≡ t .index + 1 → ⊥) → r ≡ applied 0 0 zeroed) → r ≡ addedBy w s (t .index) (matesOf s n (t .index))
-  adds-as out out′ g a r pair none =
-      ⊎-elim (λ (e : t .first ≡ k + 1). pair e ∙ a .adds (e ∙ add-one k))
-      (λ (d : t .first ≡ k + 1 → ⊥). none d ∙ go d (matesOf s n k) refl)
-      (eq-or-ne (t .first) (k + 1))
-    where
-      go : (t .first ≡ k + 1 → ⊥) → (m : ℕ) → matesOf s n k ≡ m → applied 0 0 zeroed ≡ addedBy w s k m
-      go d zero e = refl
-      go d (suc j) e = absurd (d (h .lead j e ∙ sym (add-one k)))
+  alone-due z = sym (alone-stays w s n fit k (mateless t h (λ e. omega arith)) (h .alone z))

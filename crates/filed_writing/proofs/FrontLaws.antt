@@ -33,19 +33,19 @@ module _ (out x : List ℕ) (a e : ℕ) (order : a ≤ e) (inside : e ≤ length
 
 -- ---- blocks of u put where they stand in it into a list as long as u, whose front is done up to d
 module _ (u out : List ℕ) (d : ℕ) (long : length out ≡ length u) (f : Front u out d) where
-  -- the next block may begin in what is done
-  module _ (a : ℕ) (back : a ≤ d) (inside : a + 32 ≤ length u) (out′ : List ℕ) (e : out′ ≡ splice out a (a + 32) (part u a (a + 32))) where
-    size : length (part u a (a + 32)) ≡ a + 32 - a
-    size = length-part u a (a + 32) (omega arith) inside
+  -- the next block, of m, may begin in what is done
+  module _ (a m : ℕ) (back : a ≤ d) (inside : a + m ≤ length u) (out′ : List ℕ) (e : out′ ≡ splice out a (a + m) (part u a (a + m))) where
+    size : length (part u a (a + m)) ≡ a + m - a
+    size = length-part u a (a + m) (omega arith) inside
 
-    pub block-front : Front u out′ (a + 32)
+    pub block-front : Front u out′ (a + m)
     block-front =
         let g : Front u out a = sym (take-take a d out back) ∙ ap (take a) f ∙ take-take a d u back in
-        rw e (front-next out (part u a (a + 32)) a (a + 32) (omega arith) (omega arith) size u g refl)
+        rw e (front-next out (part u a (a + m)) a (a + m) (omega arith) (omega arith) size u g refl)
 
     pub block-long : length out′ ≡ length u
-    block-long = ap length e ∙ size-next out (part u a (a + 32)) a (a + 32) (omega arith) (omega arith) size ∙ long
+    block-long = ap length e ∙ size-next out (part u a (a + m)) a (a + m) (omega arith) (omega arith) size ∙ long
 
     -- the last one ends with u
-    pub block-last : length u ≡ a + 32 → out′ ≡ u
-    block-last l = sym (take-all (a + 32) out′ (omega (arith, block-long))) ∙ block-front ∙ take-all (a + 32) u (omega arith)
+    pub block-last : length u ≡ a + m → out′ ≡ u
+    block-last l = sym (take-all (a + m) out′ (omega (arith, block-long))) ∙ block-front ∙ take-all (a + m) u (omega arith)

@@ -10,7 +10,7 @@ use Rattle.group_frames.specs.Part.{part, splice}
 use Rattle.group_frames.specs.Frame.{beginOf, startOf, endOf, recordOf}
 use Rattle.group_frames.specs.Table.{FrameTable}
 use Rattle.group_frames.proofs.PartLaws.{length-part}
-use Rattle.group_frames.proofs.PlaceLaws.{start-end, end-in, at-start, at-end}
+use Rattle.group_frames.proofs.PlaceLaws.{start-end, end-in, at-start, at-end, at-order}
 use Rattle.group_applying.specs.Within.{startIn, endIn}
 use Rattle.filed_writing.specs.Turn.{framed}
 use Rattle.filed_writing.specs.Written.{corrected, Front}
@@ -29,14 +29,10 @@ module _ (s begins : List ℕ) (n : ℕ) (t : FrameTable s begins n) (i : ℕ) (
   pub in-room : (m : ℕ) → endIn begins i - startIn begins i ≤ m → length (recordOf s i) ≤ m
   in-room m h = omega (arith, record-long)
 
-  -- every record has a block
-  pub block : startIn begins i + 32 ≤ endIn begins i
-  block = omega (arith, record-long, t .sound i below .fixed)
-
   -- a room with bytes for each record, and a buffer that reaches to the end of this one, are enough to put its frame
   pub put-fits : (room out : ℕ) → endIn begins i - startIn begins i ≤ room → endOf s i ≤ out
-      → (i + 1 < length begins) × (startIn begins i + 32 ≤ endIn begins i) × (endIn begins i ≤ length s) × (endIn begins i ≤ out) × (endIn begins i - startIn begins i ≤ room)
-  put-fits room out h e = (omega (arith, t .few, t .wide), block, omega (arith, at-end s begins n t i below, end-in s i n below, t .fit), omega (arith, at-end s begins n t i below), h)
+      → (i + 1 < length begins) × (startIn begins i ≤ endIn begins i) × (endIn begins i ≤ length s) × (endIn begins i ≤ out) × (endIn begins i - startIn begins i ≤ room)
+  put-fits room out h e = (omega (arith, t .few, t .wide), at-order s begins n t i below, omega (arith, at-end s begins n t i below, end-in s i n below, t .fit), omega (arith, at-end s begins n t i below), h)
 
   -- the frame put by the table into out, whose front is done up to it: its size, and then the front of x
   module _ (w : Strategies) (out out′ x : List ℕ) (front : Front (corrected w s n) out (beginOf s i)) (inside : endOf s i ≤ length out)

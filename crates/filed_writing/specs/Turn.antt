@@ -1,13 +1,15 @@
 -- The record that is written next with its pair, and the pair that stands treated in the rooms.
-use Prim.Native.Nat.{ℕ, suc, _+_, _-_, _<_}
+use Prim.Native.Nat.{ℕ, suc, _+_, _-_, _<_, _≤_}
 use mathlib.Core.Path.{_≡_}
 use mathlib.Core.Logic.{_⊎_}
 use mathlib.Core.List.{List}
 use lib.ListN.{length, take, drop}
+use Rattle.stats.specs.Counts.{plus}
+use Rattle.stats.specs.Room.{Adds}
 use Rattle.strategy.specs.declared.Strategies.{Strategies}
 use Rattle.pair_judgement.specs.Ready.{Cleared}
 use Rattle.group_frames.specs.Part.{part, splice}
-use Rattle.group_frames.specs.Frame.{endOf, recordOf}
+use Rattle.group_frames.specs.Frame.{beginOf, endOf, recordOf}
 use Rattle.group_mates.specs.Register.{matesOf, pairsOf}
 use Rattle.group_verdicts.specs.declared.Verdict.the-variants.{Passed}
 use Rattle.group_verdicts.specs.Judged.{judgeBy}
@@ -16,7 +18,7 @@ use Rattle.group_applying.specs.declared.Applied.{Applied}
 use Rattle.filed_writing.specs.declared.Turn.{Turn}
 use Rattle.filed_writing.specs.declared.Held.{Held}
 use Rattle.filed_writing.specs.Short.{Short}
-use Rattle.filed_writing.specs.Written.{Copied, corrected, Front, addedBy}
+use Rattle.filed_writing.specs.Written.{Copied, corrected, Front, applied, addedBy}
 
 -- every pair of the n records of s was judged, and none is refused
 abbrev pub AllPassed : List ℕ → ℕ → Type 0
@@ -43,8 +45,22 @@ pub record Stands (w : Strategies) (s : List ℕ) (n f : ℕ) (left right : List
 abbrev pub framed : List ℕ → ℕ → ℕ → List ℕ → List ℕ → List ℕ
 framed s b e x out = splice (splice out b (b + 4) (part s b (b + 4))) (b + 4) e (take (e - (b + 4)) x)
 
+-- the output begins with the corrected group up to record k, and has bytes for it
+abbrev pub Begun : Strategies → List ℕ → ℕ → ℕ → List ℕ → Type 0
+Begun w s n k out = Front (corrected w s n) out (beginOf s k) × (endOf s k ≤ length out)
+
 -- the output begins with the corrected group to the end of t's record, and is as it came behind it; h has what a first adds
 pub record Wrote (w : Strategies) (s : List ℕ) (n : ℕ) (t : Turn) (out out′ : List ℕ) (h : Held) : Type 0 where
   pub front : Front (corrected w s n) out′ (endOf s (t .index))
   pub behind : drop (endOf s (t .index)) out′ ≡ drop (endOf s (t .index)) out
   pub adds : t .first ≡ suc (t .index) → h .added ≡ addedBy w s (t .index) (matesOf s n (t .index))
+
+-- the numbers of two lots of pairs, one behind the other
+abbrev pub together : Applied → Applied → Applied
+together a b = applied (a .pairs + b .pairs) (a .overlapping + b .overlapping) (plus (a .stats) (b .stats))
+
+-- they fit
+pub record Fitting (a b : Applied) : Type 0 where
+  pub pairs : a .pairs + b .pairs < 18446744073709551616
+  pub overlapping : a .overlapping + b .overlapping < 18446744073709551616
+  pub stats : Adds (a .stats) (b .stats)

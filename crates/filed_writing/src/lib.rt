@@ -11,14 +11,14 @@ ghost use lib.ListN.{length, getD};
 ghost use Rattle.stats.specs.Counts.{zeroed};
 ghost use Rattle.pair_judgement.specs.Ready.{Cleared};
 ghost use Rattle.group_frames.specs.Part.{part, splice};
-ghost use Rattle.group_frames.specs.Frame.{beginOf, endOf, recordOf};
+ghost use Rattle.group_frames.specs.Frame.{beginOf, recordOf};
 ghost use Rattle.group_frames.specs.Table.{FrameTable};
 ghost use Rattle.group_mates.specs.Table.{Mated};
 ghost use Rattle.group_applying.specs.Within.{startIn, endIn, overlapOf};
 ghost use Rattle.filed_writing.specs.Lead.{Pairing, Led};
 ghost use Rattle.filed_writing.specs.Short.{Short};
-ghost use Rattle.filed_writing.specs.Turn.{AllPassed, Turned, Rooms, Stands, framed, Wrote};
-ghost use Rattle.filed_writing.specs.Written.{Treats, Copied, corrected, Front, applied, WrittenTo};
+ghost use Rattle.filed_writing.specs.Turn.{AllPassed, Turned, Rooms, Stands, framed, Begun, Wrote, together, Fitting};
+ghost use Rattle.filed_writing.specs.Written.{Treats, Copied, applied, WrittenTo};
 
 // Empties the first n entries of the table.
 fn clear(lead: &mut [usize], n: usize)
@@ -76,14 +76,14 @@ fn treat(first: &mut [u8], second: &mut [u8], w: Strategies) -> Applied
     }
 }
 
-// How many bytes are copied at once. Every record has as many.
-const BLOCK: usize = 32;
+// How many bytes of a record are copied at once.
+const BLOCK: usize = 64;
 
 // One block of src, put where it stands in it into dst. It is read whole before it is written, so it moves in few
 // instructions.
 fn copy_block(src: &[u8], dst: &mut [u8], at: usize)
-    requires { ⌜ (at + 32 ≤ length (now src)) × (at + 32 ≤ length (now dst)) ⌝ }
-    ensures { λ _. ⌜ now (dst .exit) ≡ splice (now (dst .entry)) at (at + 32) (part (now (src .entry)) at (at + 32)) ⌝ }
+    requires { ⌜ (at + 64 ≤ length (now src)) × (at + 64 ≤ length (now dst)) ⌝ }
+    ensures { λ _. ⌜ now (dst .exit) ≡ splice (now (dst .entry)) at (at + 64) (part (now (src .entry)) at (at + 64)) ⌝ }
 {
     let mut block = [0u8; BLOCK];
     bytes::copy(&src[at..at + BLOCK], &mut block);
@@ -103,9 +103,13 @@ fn copy_size(s: &[u8], out: &mut [u8], begin: usize)
 // Copies a record, block by block. The last block is that which ends with the record, so it may overlap the
 // one before it.
 fn copy_record(src: &[u8], dst: &mut [u8])
-    requires { ⌜ (32 ≤ length (now src)) × (length (now dst) ≡ length (now src)) ⌝ }
+    requires { ⌜ length (now dst) ≡ length (now src) ⌝ }
     ensures { λ _. ⌜ now (dst .exit) ≡ now (src .entry) ⌝ }
 {
+    if src.len() < BLOCK {
+        bytes::copy(src, dst);
+        return;
+    }
     let last = src.len() - BLOCK;
     let mut at: usize = 0;
     while at < last {
@@ -152,7 +156,7 @@ fn treat_pair(
     treat_copies(first, second, w, left, right)
 }
 
-// What a record that is no first of a pair counts as.
+// The numbers of no pair.
 fn no_pair() -> Applied
     ensures { λ r. ⌜ r ≡ applied 0 0 zeroed ⌝ }
 {
@@ -235,7 +239,7 @@ fn hold(
 
 // Puts the frame of record k: its size, and as many bytes as the record has from the front of x.
 fn put_frame(s: &[u8], begins: &[usize], k: usize, x: &[u8], out: &mut [u8])
-    requires { ⌜ (k + 1 < length (now begins)) × (startIn (now begins) k + 32 ≤ endIn (now begins) k) × (endIn (now begins) k ≤ length (now s)) × (endIn (now begins) k ≤ length (now out)) × (endIn (now begins) k - startIn (now begins) k ≤ length (now x)) ⌝ }
+    requires { ⌜ (k + 1 < length (now begins)) × (startIn (now begins) k ≤ endIn (now begins) k) × (endIn (now begins) k ≤ length (now s)) × (endIn (now begins) k ≤ length (now out)) × (endIn (now begins) k - startIn (now begins) k ≤ length (now x)) ⌝ }
     ensures { λ _. ⌜ now (out .exit) ≡ framed (now (s .entry)) (getD (now (begins .entry)) k 0) (endIn (now (begins .entry)) k) (now (x .entry)) (now (out .entry)) ⌝ }
 {
     let begin = begins[k];
@@ -259,7 +263,7 @@ fn write_record(
     right: &mut [u8],
     out: &mut [u8],
 ) -> Held
-    requires { ⌜ FrameTable (now s) (now begins) n × Turned (now s) n t × Rooms (now begins) n (now left) (now right) × Stands w (now s) n (held .first) (now left) (now right) (held .added) × (endOf (now s) (t .index) ≤ length (now out)) × Front (corrected w (now s) n) (now out) (beginOf (now s) (t .index)) ⌝ }
+    requires { ⌜ FrameTable (now s) (now begins) n × Turned (now s) n t × Rooms (now begins) n (now left) (now right) × Begun w (now s) n (t .index) (now out) × Stands w (now s) n (held .first) (now left) (now right) (held .added) ⌝ }
     ensures { λ r. ⌜ Wrote w (now (s .entry)) n t (now (out .entry)) (now (out .exit)) r × Stands w (now (s .entry)) n (r .first) (now (left .exit)) (now (right .exit)) (r .added) ⌝ }
 {
     let h = hold(s, begins, n, t, held, w, left, right);
@@ -276,15 +280,23 @@ fn write_record(
     h
 }
 
-// What the record whose turn it is adds: a pair counts where its first is written.
-fn added_at(t: Turn, held: Held) -> Applied
-    requires { ⌜ t .index < 256 ⌝ }
-    ensures { λ r. ⌜ (t .first ≡ t .index + 1 → r ≡ held .added) × ((t .first ≡ t .index + 1 → ⊥) → r ≡ applied 0 0 zeroed) ⌝ }
+// The numbers of the pairs written so far, with those of the record whose turn it was: a pair counts where its
+// first is written.
+fn counted(sum: Applied, t: Turn, held: Held) -> Applied
+    requires { ⌜ (t .index < 256) × (t .first ≡ t .index + 1 → Fitting sum (held .added)) ⌝ }
+    ensures { λ r. ⌜ (t .first ≡ t .index + 1 → r ≡ together sum (held .added)) × ((t .first ≡ t .index + 1 → ⊥) → r ≡ sum) ⌝ }
 {
-    if t.first == t.index + 1 {
-        return held.added;
+    if t.first != t.index + 1 {
+        return sum;
     }
-    no_pair()
+    let one = held.added;
+    let before = sum.stats;
+    let growth = one.stats;
+    Applied {
+        pairs: sum.pairs + one.pairs,
+        overlapping: sum.overlapping + one.overlapping,
+        stats: before.plus(growth),
+    }
 }
 
 // Writes the n records of a group, each pair corrected, from the start of `out` on; all were judged, and none refused.
@@ -308,23 +320,13 @@ pub fn write_all(
         first: 0,
         added: no_pair(),
     };
-    let mut pairs: usize = 0;
-    let mut overlapping: usize = 0;
-    let mut sum = CorrectionStats::new();
+    let mut sum = no_pair();
     let mut k: usize = 0;
     while k < n {
         let t = turn_of(mate, lead, k);
         held = write_record(s, begins, n, t, held, w, left, right, out);
-        let one = added_at(t, held);
-        let growth = one.stats;
-        pairs += one.pairs;
-        overlapping += one.overlapping;
-        sum = sum.plus(growth);
+        sum = counted(sum, t, held);
         k += 1;
     }
-    Applied {
-        pairs,
-        overlapping,
-        stats: sum,
-    }
+    sum
 }

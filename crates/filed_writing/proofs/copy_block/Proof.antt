@@ -52,7 +52,7 @@ returns c =
     let by-copy = by-copy2 .before .before .before .before in
     let entry = by-copy .before .before .before .before .before in
     let args = entry .args in
-    through (now (args .src)) (now (args .dst)) _ _ _ (args .at) (args .at + 32) (omega arith) (entry .pre .0) (entry .pre .1) (omega arith)
+    through (now (args .src)) (now (args .dst)) _ _ _ (args .at) (args .at + 64) (omega arith) (entry .pre .0) (entry .pre .1) (omega arith)
     (by-copy .copy .ensures .1) (by-copy2 .copy2 .ensures .1)
 
 pub copy-block-spec : {M : Type 1} → statement M

@@ -15,9 +15,7 @@ part-copy-record-end : tie.Need-part-copy-record-end
 part-copy-record-end c = search needs
 
 copy-record-requires : tie.Need-copy-record-requires
-copy-record-requires c κs =
-    let entry = c .before .before .before .before .before in
-    (entry .pre .0 .first .fixed, search needs)
+copy-record-requires c κs = search needs
 
 sub-copy-record-2 : tie.Need-sub-copy-record-2
 sub-copy-record-2 c = search needs
@@ -29,9 +27,7 @@ part-copy-record-end-2 : tie.Need-part-copy-record-end-2
 part-copy-record-end-2 c = search needs
 
 copy-record-requires-2 : tie.Need-copy-record-requires-2
-copy-record-requires-2 c κs =
-    let entry = c .before .before .before .before .before .before .before .before .before in
-    (entry .pre .0 .second .fixed, search needs)
+copy-record-requires-2 c κs = search needs
 
 sub-treat : tie.Need-sub-treat
 sub-treat c = search needs

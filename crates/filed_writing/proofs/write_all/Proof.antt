@@ -8,7 +8,7 @@ use Rattle.group_applying.proofs.ApplyLaws.{rest}
 use Rattle.filed_writing.specs.Turn.{Stands}
 use Rattle.filed_writing.proofs.LeadLaws.{mated-pairing}
 use Rattle.filed_writing.proofs.ChosenLaws.{stands-none}
-use Rattle.filed_writing.proofs.TurnLaws.{Counting, counting-start, Filling, filling-start, turn-step, turn-filled, written-all}
+use Rattle.filed_writing.proofs.TurnLaws.{Counting, counting-start, Filling, filling-start, turn-fits, turn-counted, turn-filled, written-all}
 use borrow.Author.Needs.{needs}
 use native.Mathlib.Omega.{arith}
 use denote.Ref.{now}
@@ -16,11 +16,11 @@ use Rattle.filed_writing.proofs.write_all.Statement.{statement}
 use Rattle.filed_writing.proofs.write_all.Tie as tie
 
 abbrev Inv-loop : tie.InvT-loop
-Inv-loop s begins n mate lead w left₀ right₀ out₀ held₀ pairs₀ overlapping₀ sum₀ k₀ left right out held pairs overlapping sum k =
-    Filling w s n k out₀ out × Counting w s n (rest s n k) sum pairs overlapping × (k ≤ n) × (length left ≡ length left₀) × (length right ≡ length right₀) × Stands w s n (held .first) left right (held .added)
+Inv-loop s begins n mate lead w left₀ right₀ out₀ held₀ sum₀ k₀ left right out held sum k =
+    Filling w s n k out₀ out × Counting w s n (rest s n k) sum × (k ≤ n) × (length left ≡ length left₀) × (length right ≡ length right₀) × Stands w s n (held .first) left right (held .added)
 
 abbrev μ-loop : tie.MeasureT-loop
-μ-loop s begins n mate lead w left₀ right₀ out₀ held₀ pairs₀ overlapping₀ sum₀ k₀ left right out held pairs overlapping sum k = n - k
+μ-loop s begins n mate lead w left₀ right₀ out₀ held₀ sum₀ k₀ left right out held sum k = n - k
 
 enter-leads-requires : tie.Need-enter-leads-requires Inv-loop μ-loop
 enter-leads-requires c κs =
@@ -31,15 +31,15 @@ enter-leads-requires c κs =
 no-pair-requires : tie.Need-no-pair-requires Inv-loop μ-loop
 no-pair-requires c κs = search needs
 
-new-requires : tie.Need-new-requires Inv-loop μ-loop
-new-requires c κs = search needs
+no-pair-requires-2 : tie.Need-no-pair-requires-2 Inv-loop μ-loop
+no-pair-requires-2 c κs = search needs
 
 loop-holds : tie.Need-loop-holds Inv-loop μ-loop
 loop-holds c =
     let entry = c .before .before .before .before .before .before .before .before .before .before .before .before .before in
     let args = entry .args in (
       filling-start (args .w) (now (args .s)) (args .n) (now (args .out)),
-      counting-start (args .w) (now (args .s)) (args .n) (c .new .result) (entry .pre .0 .few) (c .new .ensures),
+      counting-start (args .w) (now (args .s)) (args .n) (c .no-pair2 .result) (entry .pre .0 .few) (c .no-pair2 .ensures),
       omega arith,
       refl,
       refl,
@@ -60,100 +60,56 @@ write-record-requires c κs =
     let by-enter-leads = turn .before .before .before .before .before in
     let entry = by-enter-leads .before .before .before .before .before .before .before .before .before in
     let args = entry .args in
-    let turned = by-turn-of .turn-of .ensures .1 (now (args .s)) (args .n) (by-loop-test .loop-test .taken) (entry .pre .1) (by-enter-leads .enter-leads .ensures) (entry .pre .6) in
-    let index = by-turn-of .turn-of .ensures .0 in (
+    let index = by-turn-of .turn-of .ensures .0 in
+    let turned = by-turn-of .turn-of .ensures .1 (now (args .s)) (args .n) (by-loop-test .loop-test .taken) (entry .pre .1) (by-enter-leads .enter-leads .ensures) (entry .pre .6) in (
       entry .pre .0,
       turned,
       (λ j h. omega (arith, loop .inv .3, entry .pre .3 j h), λ j h. omega (arith, loop .inv .4, entry .pre .4 j h)),
+      (rw index (loop .inv .0 .front), omega (arith, end-in (now (args .s)) _ (args .n) (turned .below), loop .inv .0 .size, entry .pre .5)),
       loop .inv .5,
-      omega (arith, end-in (now (args .s)) _ (args .n) (turned .below), loop .inv .0 .size, entry .pre .5),
-      rw index (loop .inv .0 .front),
     )
 
-added-at-requires : tie.Need-added-at-requires Inv-loop μ-loop
-added-at-requires c κs =
+counted-requires : tie.Need-counted-requires Inv-loop μ-loop
+counted-requires c κs =
+    let by-write-record = c .before .before .before .before .before .before in
     let by-turn-of = c .before .before .before .before .before .before .before .before .before .before in
-    let entry = by-turn-of .before .before .before .before .before .before .before .before .before .before .before .before .before .before .before .before .before in
-    omega (arith, by-turn-of .turn-of .ensures .0, by-turn-of .before .before .loop-test .taken, entry .pre .0 .few)
-
-add-pairs : tie.Need-add-pairs Inv-loop μ-loop
-add-pairs c =
-    let by-added-at = c .before .before in
-    let by-write-record = c .before .before .before .before .before .before .before .before .before in
-    let by-turn-of = c .before .before .before .before .before .before .before .before .before .before .before .before .before in
     let by-loop-test = by-turn-of .before .before in
     let turn = by-loop-test .before in
     let loop = turn .loop in
     let by-enter-leads = turn .before .before .before .before .before in
     let entry = by-enter-leads .before .before .before .before .before .before .before .before .before in
     let args = entry .args in
+    let index = by-turn-of .turn-of .ensures .0 in
     let turned = by-turn-of .turn-of .ensures .1 (now (args .s)) (args .n) (by-loop-test .loop-test .taken) (entry .pre .1) (by-enter-leads .enter-leads .ensures) (entry .pre .6) in
-    let step = turn-step (args .w) (now (args .s)) (args .n) (entry .pre .0 .fit) (loop .k) (by-loop-test .loop-test .taken) _ (by-turn-of .turn-of .ensures .0) turned
-    _ _ _ (by-write-record .write-record .ensures .0) (loop .sum) (loop .pairs) (loop .overlapping) (loop .inv .1) _ (by-added-at .added-at .ensures .0) (by-added-at .added-at .ensures .1) in
-    omega (arith, step .pairs)
-
-add-overlapping : tie.Need-add-overlapping Inv-loop μ-loop
-add-overlapping c =
-    let by-added-at = c .before .before .before in
-    let by-write-record = c .before .before .before .before .before .before .before .before .before .before in
-    let by-turn-of = c .before .before .before .before .before .before .before .before .before .before .before .before .before .before in
-    let by-loop-test = by-turn-of .before .before in
-    let turn = by-loop-test .before in
-    let loop = turn .loop in
-    let by-enter-leads = turn .before .before .before .before .before in
-    let entry = by-enter-leads .before .before .before .before .before .before .before .before .before in
-    let args = entry .args in
-    let turned = by-turn-of .turn-of .ensures .1 (now (args .s)) (args .n) (by-loop-test .loop-test .taken) (entry .pre .1) (by-enter-leads .enter-leads .ensures) (entry .pre .6) in
-    let step = turn-step (args .w) (now (args .s)) (args .n) (entry .pre .0 .fit) (loop .k) (by-loop-test .loop-test .taken) _ (by-turn-of .turn-of .ensures .0) turned
-    _ _ _ (by-write-record .write-record .ensures .0) (loop .sum) (loop .pairs) (loop .overlapping) (loop .inv .1) _ (by-added-at .added-at .ensures .0) (by-added-at .added-at .ensures .1) in
-    omega (arith, step .overlapping)
-
-plus-requires : tie.Need-plus-requires Inv-loop μ-loop
-plus-requires c κs =
-    let by-added-at = c .before .before .before in
-    let by-write-record = c .before .before .before .before .before .before .before .before .before .before in
-    let by-turn-of = c .before .before .before .before .before .before .before .before .before .before .before .before .before .before in
-    let by-loop-test = by-turn-of .before .before in
-    let turn = by-loop-test .before in
-    let loop = turn .loop in
-    let by-enter-leads = turn .before .before .before .before .before in
-    let entry = by-enter-leads .before .before .before .before .before .before .before .before .before in
-    let args = entry .args in
-    let turned = by-turn-of .turn-of .ensures .1 (now (args .s)) (args .n) (by-loop-test .loop-test .taken) (entry .pre .1) (by-enter-leads .enter-leads .ensures) (entry .pre .6) in
-    let step = turn-step (args .w) (now (args .s)) (args .n) (entry .pre .0 .fit) (loop .k) (by-loop-test .loop-test .taken) _ (by-turn-of .turn-of .ensures .0) turned
-    _ _ _ (by-write-record .write-record .ensures .0) (loop .sum) (loop .pairs) (loop .overlapping) (loop .inv .1) _ (by-added-at .added-at .ensures .0) (by-added-at .added-at .ensures .1) in
-    step .adds
+    (omega (arith, index, by-loop-test .loop-test .taken, entry .pre .0 .few), turn-fits (args .w) (now (args .s)) (args .n) (loop .k) (by-loop-test .loop-test .taken) _ index turned _ _ _ (by-write-record .write-record .ensures .0) (loop .sum) (loop .inv .1))
 
 add-k : tie.Need-add-k Inv-loop μ-loop
 add-k c =
-    let by-loop-test = c .before .before .before .before .before .before .before .before .before .before .before .before .before .before .before .before .before in
+    let by-loop-test = c .before .before .before .before .before .before .before .before .before .before .before .before .before in
     let entry = by-loop-test .before .before .before .before .before .before .before .before .before .before .before .before .before .before .before in
     omega (arith, entry .pre .0 .few, by-loop-test .loop-test .taken)
 
 loop-less : tie.Need-loop-less Inv-loop μ-loop
-loop-less c = omega (arith, c .before .before .before .before .before .before .before .before .before .before .before .before .before .before .before .before .before .loop-test .taken)
+loop-less c = omega (arith, c .before .before .before .before .before .before .before .before .before .before .before .before .before .loop-test .taken)
 
 loop-again : tie.Need-loop-again Inv-loop μ-loop
 loop-again c =
-    let by-added-at = c .before .before .before .before in
-    let by-write-record = c .before .before .before .before .before .before .before .before .before .before .before in
-    let by-turn-of = c .before .before .before .before .before .before .before .before .before .before .before .before .before .before .before in
+    let by-write-record = c .before .before .before .before .before .before .before in
+    let by-turn-of = c .before .before .before .before .before .before .before .before .before .before .before in
     let by-loop-test = by-turn-of .before .before in
     let turn = by-loop-test .before in
     let loop = turn .loop in
     let by-enter-leads = turn .before .before .before .before .before in
     let entry = by-enter-leads .before .before .before .before .before .before .before .before .before in
     let args = entry .args in
+    let index = by-turn-of .turn-of .ensures .0 in
     let turned = by-turn-of .turn-of .ensures .1 (now (args .s)) (args .n) (by-loop-test .loop-test .taken) (entry .pre .1) (by-enter-leads .enter-leads .ensures) (entry .pre .6) in
-    let step = turn-step (args .w) (now (args .s)) (args .n) (entry .pre .0 .fit) (loop .k) (by-loop-test .loop-test .taken) _ (by-turn-of .turn-of .ensures .0) turned
-    _ _ _ (by-write-record .write-record .ensures .0) (loop .sum) (loop .pairs) (loop .overlapping) (loop .inv .1) _ (by-added-at .added-at .ensures .0) (by-added-at .added-at .ensures .1) in
-    let kept = by-write-record .write-record .kept in (
-      turn-filled (args .w) (now (args .s)) (args .n) (entry .pre .0 .fit) (loop .k) (by-loop-test .loop-test .taken) _ (by-turn-of .turn-of .ensures .0) turned
-          _ _ _ (by-write-record .write-record .ensures .0) (now (args .out)) (loop .inv .0) (kept .1 .1 .1 .1 .1 .1 .1 .1 .0),
-      rw (c .plus .ensures) (step .next),
+    let kept = by-write-record .write-record .kept .1 .1 .1 .1 .1 .1 in (
+      turn-filled (args .w) (now (args .s)) (args .n) (loop .k) (by-loop-test .loop-test .taken) _ index turned _ _ _ (by-write-record .write-record .ensures .0) (now (args .out)) (loop .inv .0) (kept .1 .1 .0),
+      turn-counted (args .w) (now (args .s)) (args .n) (loop .k) (by-loop-test .loop-test .taken) _ index turned _ _ _ (by-write-record .write-record .ensures .0) (loop .sum) (loop .inv .1) _ (c .counted .ensures .0) (c .counted .ensures .1),
       omega (arith, by-loop-test .loop-test .taken),
-      kept .1 .1 .1 .1 .1 .1 .0 ∙ loop .inv .3,
-      kept .1 .1 .1 .1 .1 .1 .1 .0 ∙ loop .inv .4,
+      kept .0 ∙ loop .inv .3,
+      kept .1 .0 ∙ loop .inv .4,
       by-write-record .write-record .ensures .1,
     )
 
@@ -172,10 +128,9 @@ same-length-4 c = c .before .loop .inv .0 .size
 returns : tie.Need-returns Inv-loop μ-loop
 returns c =
     let turn = c .before in
-    let entry = turn .before .before .before .before .before .before .before .before .before .before .before .before .before .before in
-    let args = entry .args in
+    let args = turn .before .before .before .before .before .before .before .before .before .before .before .before .before .before .args in
     let loop = turn .loop in
-    written-all (args .w) (now (args .s)) (args .n) (loop .k) (now (args .out)) (loop .out) _ (loop .inv .0) (loop .inv .1)
+    written-all (args .w) (now (args .s)) (args .n) (loop .k) (now (args .out)) (loop .out) (loop .sum) (loop .inv .0) (loop .inv .1)
     (omega (arith, c .loop-test .left)) (loop .inv .2)
 
 pub write-all-spec : {M : Type 1} → statement M
@@ -186,14 +141,11 @@ write-all-spec =
     μ-loop
     enter-leads-requires
     no-pair-requires
-    new-requires
+    no-pair-requires-2
     loop-holds
     turn-of-requires
     write-record-requires
-    added-at-requires
-    add-pairs
-    add-overlapping
-    plus-requires
+    counted-requires
     add-k
     loop-less
     loop-again

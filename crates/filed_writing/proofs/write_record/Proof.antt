@@ -13,7 +13,7 @@ use Rattle.filed_writing.proofs.write_record.Tie as tie
 hold-requires : tie.Need-hold-requires
 hold-requires c κs =
     let entry = c .before .before .before .before .before .before .before in
-    (entry .pre .0, entry .pre .1, entry .pre .2, entry .pre .3)
+    (entry .pre .0, entry .pre .1, entry .pre .2, entry .pre .4)
 
 record-at-requires : tie.Need-record-at-requires
 record-at-requires c κs =
@@ -25,7 +25,7 @@ put-frame-requires c κs =
     let entry = c .before .before .before .before .before .before .before .before .before .before .before .before .before .before .before .before in
     let args = entry .args in
     put-fits (now (args .s)) (now (args .begins)) (args .n) (entry .pre .0) (args .t .index) (entry .pre .1 .below) _ _
-    (omega (arith, ap length (c .before .record-at .ensures), record-long (now (args .s)) (now (args .begins)) (args .n) (entry .pre .0) (args .t .index) (entry .pre .1 .below))) (entry .pre .4)
+    (omega (arith, ap length (c .before .record-at .ensures), record-long (now (args .s)) (now (args .begins)) (args .n) (entry .pre .0) (args .t .index) (entry .pre .1 .below))) (entry .pre .3 .1)
 
 same-length : tie.Need-same-length
 same-length c = search needs
@@ -47,8 +47,8 @@ returns c =
     let put = by-put-frame .put-frame .ensures in
     let due = whole (now (args .s)) (now (args .begins)) (args .n) (entry .pre .0) (args .t .index) (entry .pre .1 .below) _ _ (by-record-at .record-at .ensures) (alone-due (args .w) (now (args .s)) (args .n) (entry .pre .0 .fit) (args .t) (entry .pre .1) (by-if1 .if1 .taken)) in (
       record {
-        front = put-front (now (args .s)) (now (args .begins)) (args .n) (entry .pre .0) (args .t .index) (entry .pre .1 .below) (args .w) _ _ _ (entry .pre .5) (entry .pre .4) put due;
-        behind = put-behind (now (args .s)) (now (args .begins)) (args .n) (entry .pre .0) (args .t .index) (entry .pre .1 .below) (args .w) _ _ _ (entry .pre .5) (entry .pre .4) put due;
+        front = put-front (now (args .s)) (now (args .begins)) (args .n) (entry .pre .0) (args .t .index) (entry .pre .1 .below) (args .w) _ _ _ (entry .pre .3 .0) (entry .pre .3 .1) put due;
+        behind = put-behind (now (args .s)) (now (args .begins)) (args .n) (entry .pre .0) (args .t .index) (entry .pre .1 .below) (args .w) _ _ _ (entry .pre .3 .0) (entry .pre .3 .1) put due;
         adds = λ e. absurd (omega (arith, by-if1 .if1 .taken));
       },
       by-hold .hold .ensures .0,
@@ -64,7 +64,7 @@ put-frame-requires-2 c κs =
     let args = entry .args in
     let kept = by-hold .hold .kept .1 .1 .1 .1 .1 .1 in
     put-fits (now (args .s)) (now (args .begins)) (args .n) (entry .pre .0) (args .t .index) (entry .pre .1 .below) _ _
-    (omega (arith, kept .0, kept .1 .0, entry .pre .2 .0 (args .t .index) (entry .pre .1 .below), entry .pre .2 .1 (args .t .index) (entry .pre .1 .below))) (entry .pre .4)
+    (omega (arith, kept .0, kept .1 .0, entry .pre .2 .0 (args .t .index) (entry .pre .1 .below), entry .pre .2 .1 (args .t .index) (entry .pre .1 .below))) (entry .pre .3 .1)
 
 same-length-4 : tie.Need-same-length-4
 same-length-4 c = search needs
@@ -86,8 +86,8 @@ returns-2 c =
     let put = by-put-frame .put-frame2 .ensures in
     let due = first-due (args .w) (now (args .s)) (args .n) (entry .pre .0 .fit) (args .t) (entry .pre .1) _ _ _ (by-hold .hold .ensures .1) (by-if2 .if2 .taken ∙ add-one _) in (
       record {
-        front = put-front (now (args .s)) (now (args .begins)) (args .n) (entry .pre .0) (args .t .index) (entry .pre .1 .below) (args .w) _ _ _ (entry .pre .5) (entry .pre .4) put due;
-        behind = put-behind (now (args .s)) (now (args .begins)) (args .n) (entry .pre .0) (args .t .index) (entry .pre .1 .below) (args .w) _ _ _ (entry .pre .5) (entry .pre .4) put due;
+        front = put-front (now (args .s)) (now (args .begins)) (args .n) (entry .pre .0) (args .t .index) (entry .pre .1 .below) (args .w) _ _ _ (entry .pre .3 .0) (entry .pre .3 .1) put due;
+        behind = put-behind (now (args .s)) (now (args .begins)) (args .n) (entry .pre .0) (args .t .index) (entry .pre .1 .below) (args .w) _ _ _ (entry .pre .3 .0) (entry .pre .3 .1) put due;
         adds = λ e. first-adds (args .w) (now (args .s)) (args .n) (entry .pre .0 .fit) (args .t) (entry .pre .1) _ _ _ (by-hold .hold .ensures .1) e;
       },
       by-hold .hold .ensures .0,
@@ -100,7 +100,7 @@ put-frame-requires-3 c κs =
     let args = entry .args in
     let kept = by-hold .hold .kept .1 .1 .1 .1 .1 .1 in
     put-fits (now (args .s)) (now (args .begins)) (args .n) (entry .pre .0) (args .t .index) (entry .pre .1 .below) _ _
-    (omega (arith, kept .0, kept .1 .0, entry .pre .2 .0 (args .t .index) (entry .pre .1 .below), entry .pre .2 .1 (args .t .index) (entry .pre .1 .below))) (entry .pre .4)
+    (omega (arith, kept .0, kept .1 .0, entry .pre .2 .0 (args .t .index) (entry .pre .1 .below), entry .pre .2 .1 (args .t .index) (entry .pre .1 .below))) (entry .pre .3 .1)
 
 same-length-7 : tie.Need-same-length-7
 same-length-7 c = search needs
@@ -122,8 +122,8 @@ returns-3 c =
     let put = by-put-frame .put-frame3 .ensures in
     let due = last-due (args .w) (now (args .s)) (args .n) (entry .pre .0 .fit) (args .t) (entry .pre .1) _ _ _ (by-hold .hold .ensures .1) (by-if1 .if1 .left) (λ e. by-if2 .if2 .left (e ∙ sym (add-one _))) in (
       record {
-        front = put-front (now (args .s)) (now (args .begins)) (args .n) (entry .pre .0) (args .t .index) (entry .pre .1 .below) (args .w) _ _ _ (entry .pre .5) (entry .pre .4) put due;
-        behind = put-behind (now (args .s)) (now (args .begins)) (args .n) (entry .pre .0) (args .t .index) (entry .pre .1 .below) (args .w) _ _ _ (entry .pre .5) (entry .pre .4) put due;
+        front = put-front (now (args .s)) (now (args .begins)) (args .n) (entry .pre .0) (args .t .index) (entry .pre .1 .below) (args .w) _ _ _ (entry .pre .3 .0) (entry .pre .3 .1) put due;
+        behind = put-behind (now (args .s)) (now (args .begins)) (args .n) (entry .pre .0) (args .t .index) (entry .pre .1 .below) (args .w) _ _ _ (entry .pre .3 .0) (entry .pre .3 .1) put due;
         adds = λ e. absurd (by-if2 .if2 .left (e ∙ sym (add-one _)));
       },
       by-hold .hold .ensures .0,
