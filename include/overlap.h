@@ -84,21 +84,22 @@ extern "C" {
  *           3      1103 1203   its name and operations reach past its end
  *           4      1104 1204   its bases and qualities reach past its end
  *           5      1105 1205   an operation's code is above 8
- *           6      1106 1206   an operation's length is 0
  *           7      1107 1207   it has bases and operations, and the M I S = X lengths don't add up
- *                              to the number of bases
+ *                              to the number of bases; operations of length 0 are operations too
  *           8      1108 1208   its position plus the M D N = X lengths is above 2147483646
  *           9      1009        one of the counts is above 18446744073692774399
  *          10      1010        a strategy number is not 0, 1 or 2
  *          15      1015        counts_len is not 32
+ *
+ *          6, an operation of length 0, is withdrawn: no answer carries it any more. Such an operation
+ *          counts nothing and places no base.
  *
  * Order of judgement. The first that applies is the answer:
  *
  *   1. 15, then 10, then 9;
  *   2. 1 to 4 in the first record, then 1 to 4 in the second;
  *   3. either unmapped, then ids that differ, then a negative position: 0;
- *   4. 5 to 8 in the first record, then in the second: the operations from front to back, at each
- *      the code (5) before the length (6); then 7; then 8;
+ *   4. 5, 7 and 8 in the first record, then in the second;
  *   5. no shared position: 0. Else: 1.
  *
  * So a pair that ends at step 3 may have operations that step 4 would refuse.
@@ -153,7 +154,7 @@ uint32_t overlap_call(uint8_t *first, size_t first_len,
  *          growth is what this call added to the counts. The records may be used.
  *   1      already done: filed was corrected before. Nothing is written; its trailer has the growth.
  *   other  refused: 1000 + 100 * place + number. The place is the index of the record at fault, from 0
- *          on, and 0 where no record is; 9, 15, 19, 20 and 21 name none. The numbers 1 to 9 and 15 are
+ *          on, and 0 where no record is; 9, 15, 19, 20 and 21 name none. The numbers 1 to 5, 7 to 9 and 15 are
  *          those of overlap_call; and
  *
  *          number  when
@@ -166,7 +167,7 @@ uint32_t overlap_call(uint8_t *first, size_t first_len,
  *
  * Order of judgement: 15; 9; the frames from front to back, at each place four zero bytes first, then
  * 12, 11 and 1 to 4; 20; 21; for a corrected group that is all; the pairs of a raw one in order of the
- * first's index, each with 5 to 8; 19.
+ * first's index, each with 5, 7 and 8; 19.
  *
  * What is written: for 0, filed_len bytes of out and the counts. For any other answer nothing.
  *

@@ -6,7 +6,7 @@
 # gate   (default) a fresh run of about a minute; SEED is the time unless given, and is printed
 # pairs  the part of it that needs the archive alone
 # groups the other part, which needs the program; the judge is as `pairs` built it
-# full   the same at length: 46.8 million pairs and 120,000 groups in four to eight minutes
+# full   the same at length: 193 million pairs and 120,000 groups in six to twelve minutes
 # lists  all lists of up to three operations of lengths 1 and 2 in both reads: 225 million pairs
 #
 # FOLDER is that of the published Rust (default ../shared/docs/src beside the repository). Where
@@ -33,7 +33,8 @@ case $size in
 gate | pairs | groups) pairs=1000000 few=300000 groups=15000 ;;
 full) pairs=16000000 few=3000000 groups=120000 ;;
 esac
-native || groups=$((${groups:-0} / 5))     # each starts the program anew, which takes longer under the emulator
+mates=2                                   # operations of the mate of a read of four, some of length 0
+native || groups=$((${groups:-0} / 5)) mates=1     # a program is started for each group, and a pair goes through hosts/far
 judge=$root/target/oracle/judge
 if [ "$size" != groups ] || [ ! -x "$judge" ]; then "$root/oracle/build.sh" "$PUBLISHED" "$ARCHIVE"; fi
 echo "seed $seed"
@@ -49,10 +50,14 @@ if [ "$size" != groups ]; then
     "$judge" extremes "$seed" "$few"
     "$judge" short 3 3 1 "$seed"
     "$judge" short 2 2 2 "$seed"
+    "$judge" zeros 4 $mates "$seed"
+    "$judge" zeros $mates 4 "$seed"
 fi
 if [ "$size" = full ]; then
     "$judge" short 3 2 2 "$seed"
     "$judge" short 2 3 2 "$seed"
+    "$judge" zeros 4 3 "$seed"
+    "$judge" zeros 3 4 "$seed"
 fi
 if [ "$size" != pairs ]; then
     need_program

@@ -31,10 +31,11 @@ NAMES = {'pair': 'overlap_call', 'filed': 'overlap_filed_call', 'trailer': 'over
 
 def given():
     """Every refusal that a call gives: call, number and place, and the words for the place."""
-    for number in range(1, 9):
+    faults = [1, 2, 3, 4, 5, 7, 8]   # of a record; 6 is withdrawn
+    for number in faults:
         yield 'pair', number, 1, ', first record'
         yield 'pair', number, 2, ', second record'
-    for call, of_record, of_none in ('filed', [*range(1, 9), 11], [9, 15, 19, 20, 21]), ('trailer', [*range(1, 5), 11], [10, 19]):
+    for call, of_record, of_none in ('filed', [*faults, 11], [9, 15, 19, 20, 21]), ('trailer', [*range(1, 5), 11], [10, 19]):
         for number in of_record:
             yield from ((call, number, place, f', record with index {place}') for place in range(256))
         yield call, 12, 256, ', record with index 256'
@@ -57,7 +58,9 @@ def texts():
 def check_sources():
     table = {int(n) for n in re.findall(r'(?m)^REFUSAL\((\d+),', read('hosts/c/answers.def'))}
     numbers = {int(n) for n in re.findall(r'Refusal::\w+(?:\(p\))? => Row \{\s*number: (\d+),', read('crates/refusal/src/lib.rt'))}
-    check(len(numbers) > 0 and numbers == table, f'crates/refusal has {sorted(numbers)}, the table {sorted(table)}')
+    withdrawn = {int(n) for n in re.findall(r'(?m)^REFUSAL\((\d+), .*"withdrawn: ', read('hosts/c/answers.def'))}
+    check(withdrawn == {6}, f'the table has withdrawn {sorted(withdrawn)}')
+    check(len(numbers) > 0 and numbers == table - withdrawn, f'crates/refusal has {sorted(numbers)}, the table {sorted(table)}')
     check(table == set(WORDS), f'docs/REFUSALS.md has {sorted(WORDS)}, the table {sorted(table)}')
     rows = re.findall(r'(?m)^ \* +\d+ +((?:1[012]\d\d )+) ', read('include/overlap.h'))
     declared = {int(code) for row in rows for code in row.split()}

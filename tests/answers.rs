@@ -42,7 +42,7 @@ fn filed(n: u32) -> FiledAnswer {
 /// Every answer for a pair.
 fn answers() -> Vec<Answer> {
     use Fault::*;
-    let faults = [Short, Long, NameAndOperations, BasesAndQualities, OperationCode, OperationLength, ReadTotal, ReferenceEnd];
+    let faults = [Short, Long, NameAndOperations, BasesAndQualities, OperationCode, ReadTotal, ReferenceEnd];
     let plain = [Answer::NoOverlap, Answer::Overlap, Answer::CountTooLarge];
     plain.into_iter().chain(faults.map(Answer::First)).chain(faults.map(Answer::Second)).collect()
 }

@@ -89,12 +89,10 @@ def check_record(r, place):
 
 
 def check_operations(r, place):
-    """Refusals 5 to 8."""
+    """Refusals 5, 7 and 8."""
     for length, code in operations(r):
         if code > 8:
             raise Refused(5, place)
-        if length == 0:
-            raise Refused(6, place)
     if l_seq(r) and operations(r) and sum(length for length, code in operations(r) if code in READ) != l_seq(r):
         raise Refused(7, place)
     if pos(r) + sum(length for length, code in operations(r) if code in REFERENCE) > 2147483646:

@@ -73,7 +73,7 @@ pub struct Counts {
     pub corrected: u64,
 }
 
-/// What is wrong with a record: refusals 1 to 8.
+/// What is wrong with a record: refusals 1 to 5, 7 and 8. 6 is withdrawn.
 #[derive(Clone, Copy, Debug, PartialEq, Eq)]
 pub enum Fault {
     Short = 1,
@@ -81,8 +81,7 @@ pub enum Fault {
     NameAndOperations,
     BasesAndQualities,
     OperationCode,
-    OperationLength,
-    ReadTotal,
+    ReadTotal = 7,
     ReferenceEnd,
 }
 
@@ -240,8 +239,8 @@ impl Refusal {
 impl Fault {
     fn of(number: u32) -> Fault {
         use Fault::*;
-        [Short, Long, NameAndOperations, BasesAndQualities, OperationCode, OperationLength, ReadTotal, ReferenceEnd]
-            [number as usize - 1]
+        let all = [Short, Long, NameAndOperations, BasesAndQualities, OperationCode, ReadTotal, ReferenceEnd];
+        *all.iter().find(|&&fault| fault as u32 == number).expect("a number of the table")
     }
 }
 

@@ -98,7 +98,6 @@ fn number(fault: Fault) -> u32 {
         Fault::NameAndOperations => 3,
         Fault::BasesAndQualities => 4,
         Fault::OperationCode => 5,
-        Fault::OperationLength => 6,
         Fault::ReadTotal => 7,
         Fault::ReferenceEnd => 8,
     }

@@ -3,10 +3,11 @@
 use crate::call::{After, call, wrapped};
 use crate::model::{self, Answer};
 use crate::published::{self, Ended, PairRun};
-use crate::record::{Case, hex, pack, unpack};
+use crate::record::{Case, hex, pack, unpack, uses};
 use std::collections::BTreeMap;
 
-/// Accepted input on which the published Rust wraps or panics (docs/DIFFERENCES.md).
+/// Accepted input on which the published Rust wraps, panics or places a base elsewhere
+/// (docs/DIFFERENCES.md).
 #[derive(Clone, Copy, Debug, PartialEq, Eq, PartialOrd, Ord)]
 pub enum Class {
     /// The second position is negative, so nothing else matters; but the first record's start or
@@ -15,6 +16,34 @@ pub enum Class {
     /// l_seq is 0, so that no base sits anywhere; but the operations' read lengths move the
     /// Rust's read position past the largest i32.
     ReadPositionPastI32,
+    /// A record has an aligned operation of length 0 that the Rust steps on to as if a base stood
+    /// there, so that it may place bases elsewhere from there on.
+    StepsOnZero,
+    /// The same, in a record that ends so late that the steps can lead past the largest i32.
+    StepsPastI32,
+}
+
+/// Can the Rust step on to an operation of length 0? There is a base; the operation, an M, = or X,
+/// stands behind another M, = or X; and of the operations behind it the first that has a length and
+/// uses only one of read and reference begins a rest that uses both.
+fn steps_on_zero(r: &[u8]) -> bool {
+    let ops = model::operations(r);
+    let aligned = |o: &(u64, u64)| uses(o.0 as u32) == (true, true);
+    let one_sided = |o: &(u64, u64)| o.1 > 0 && uses(o.0 as u32).0 != uses(o.0 as u32).1;
+    let rest_uses_both = |rest: &[(u64, u64)]| {
+        let from = rest.iter().position(one_sided).unwrap_or(rest.len());
+        let some = |side: fn((bool, bool)) -> bool| rest[from..].iter().any(|o| o.1 > 0 && side(uses(o.0 as u32)));
+        some(|u| u.0) && some(|u| u.1)
+    };
+    let stepped = |k: usize| aligned(&ops[k]) && ops[k].1 == 0 && ops[..k].iter().any(aligned) && rest_uses_both(&ops[k + 1..]);
+    model::l_seq(r) > 0 && (0..ops.len()).any(stepped)
+}
+
+/// Does a record end so late that as many more positions as it has aligned operations of length 0
+/// pass the largest i32?
+fn ends_late(r: &[u8]) -> bool {
+    let zeros = model::operations(r).iter().filter(|o| o.1 == 0 && uses(o.0 as u32) == (true, true)).count();
+    model::pos(r) + (model::reference_total(r) + zeros as u64) as i64 >= i64::from(i32::MAX)
 }
 
 /// The class of an accepted pair.
@@ -31,7 +60,14 @@ pub fn class(first: &[u8], second: &[u8]) -> Option<Class> {
         return past.then_some(Class::FirstEndPastI32);
     }
     let wraps = |r: &[u8]| model::l_seq(r) == 0 && model::read_total(r) >= END;
-    (wraps(first) || wraps(second)).then_some(Class::ReadPositionPastI32)
+    if wraps(first) || wraps(second) {
+        return Some(Class::ReadPositionPastI32);
+    }
+    let stepping: Vec<_> = [first, second].into_iter().filter(|r| steps_on_zero(r)).collect();
+    match stepping.iter().any(|r| ends_late(r)) {
+        true => Some(Class::StepsPastI32),
+        false => (!stepping.is_empty()).then_some(Class::StepsOnZero),
+    }
 }
 
 /// How many cases went which way.
@@ -41,8 +77,8 @@ pub struct Tally {
     pub answers: BTreeMap<u32, u64>,
     /// Accepted cases on which both builds of the Rust gave every byte, answer and count.
     pub equal: u64,
-    /// Other accepted cases, by class and by what the two builds did.
-    pub known: BTreeMap<(Class, String), u64>,
+    /// Other accepted cases, by class and by what the two builds did; with the smallest of them.
+    pub known: BTreeMap<(Class, String), (u64, Case)>,
     /// What the Rust without checks does where we refuse, by our number: no, yes, panic.
     pub on_refused: BTreeMap<u32, [u64; 3]>,
 }
@@ -53,11 +89,27 @@ impl Tally {
         let answers: Vec<String> = self.answers.iter().map(|(a, n)| format!("{a}: {n}")).collect();
         println!("  answers  {}", answers.join("  "));
         println!("  accepted and equal with both builds of the published Rust: {}", self.equal);
-        for ((class, what), n) in &self.known {
+        for ((class, what), (n, _)) in &self.known {
             println!("  known class {class:?}, {what}: {n}");
         }
         for (number, [no, yes, panic]) in &self.on_refused {
             println!("  refused as {number}; there the Rust says no {no}, yes {yes}, panics {panic}");
+        }
+    }
+
+    /// The smallest case of each class and each thing that the Rust does.
+    pub fn print_smallest(&self) {
+        for ((class, what), (_, case)) in &self.known {
+            println!("  {class:?}, {what}: judge one {}", spelled(case));
+        }
+    }
+
+    fn count_known(&mut self, class: Class, what: String, case: &Case) {
+        let size = |c: &Case| c.first.len() + c.second.len();
+        let (n, smallest) = self.known.entry((class, what)).or_insert_with(|| (0, case.clone()));
+        *n += 1;
+        if size(case) < size(smallest) {
+            *smallest = case.clone();
         }
     }
 }
@@ -102,13 +154,17 @@ fn rust_judges(case: &Case, expected: &After, tally: &mut Tally) -> Result<(), S
     }
     let words = (word(&checked), word(&plain));
     let class = class(&case.first, &case.second);
+    let panics = |w: &str| w.ends_with("panic");
     match (class, words) {
         (Some(Class::FirstEndPastI32), ("overflow panic", "equal")) => {}
         (Some(Class::ReadPositionPastI32), ("overflow panic", "equal" | "index panic")) => {}
+        (Some(Class::StepsOnZero), (with, without)) if with == without && !panics(with) => {}
+        (Some(Class::StepsPastI32), (with, without)) if with == without && !panics(with) => {}
+        (Some(Class::StepsPastI32), ("overflow panic", _)) => {}
         _ => return Err(format!("the published Rust differs; with checks {checked:?}, without {plain:?}")),
     }
     let words = format!("with checks: {}, without: {}", words.0, words.1);
-    *tally.known.entry((class.unwrap(), words)).or_default() += 1;
+    tally.count_known(class.unwrap(), words, case);
     Ok(())
 }
 
@@ -120,19 +176,32 @@ fn rust_beside(case: &Case, expected: &After, run: PairRun) -> Ended<()> {
             let given = unpack(&case.counts);
             let counts = pack(std::array::from_fn(|k| given[k] + growth[k]));
             let got = After { answer: u32::from(overlap), first, second, counts };
-            if got == *expected { Ended::Done(()) } else { Ended::Failed(format!("other {}", got.differs(expected))) }
+            if got == *expected { Ended::Done(()) } else { Ended::Failed(otherwise(&got, expected).into()) }
         }
         Ended::Failed(e) => Ended::Failed(e),
         Ended::Panicked(m) => Ended::Panicked(m),
     }
 }
 
-fn word(ended: &Ended<()>) -> &'static str {
+/// In what the Rust differs from what was expected.
+fn otherwise(got: &After, expected: &After) -> &'static str {
+    let bytes = got.first != expected.first || got.second != expected.second;
+    match (got.answer, expected.answer) {
+        (1, 0) => "overlap where there is none",
+        (0, 1) => "no overlap where there is one",
+        _ if bytes && got.counts != expected.counts => "other bytes and counts",
+        _ if bytes => "other bytes",
+        _ => "other counts",
+    }
+}
+
+fn word(ended: &Ended<()>) -> &str {
     match ended {
         Ended::Done(()) => "equal",
+        Ended::Failed(how) => how,
         Ended::Panicked(m) if m.contains("overflow") => "overflow panic",
         Ended::Panicked(m) if m.contains("index out of bounds") => "index panic",
-        _ => "another result",
+        Ended::Panicked(_) => "another panic",
     }
 }
 

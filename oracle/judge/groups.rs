@@ -1,6 +1,6 @@
 //! Groups through the program's standard input and output, against the model, and on accepted
 //! input against `apply_overlapping_consensus` of the published Rust in both builds.
-use crate::compare::class;
+use crate::compare::{Class, class};
 use crate::group_cases::{input, limits};
 use crate::model;
 use crate::published::{self, Ended};
@@ -44,16 +44,19 @@ pub enum Judged {
         pairs: usize,
         overlapping: usize,
     },
-    /// A pair belongs to a known class; there the paper decides.
+    /// A pair belongs to a known class; there the paper decides. All other records are equal.
     Known,
+    /// The same, but the Rust panicked on such a pair.
+    Panicked,
 }
 
 /// Holds the output for an accepted input to the published Rust. An Err is a finding.
 pub fn judged_by_rust(input: &[u8], output: &[u8]) -> Result<Judged, String> {
     let records = model::records(&input[2..]).expect("accepted");
     let pairs = model::pairs(&records);
-    if pairs.iter().any(|&(i, j)| class(&records[i], &records[j]).is_some()) {
-        return Ok(Judged::Known);
+    let known: Vec<_> = pairs.iter().filter(|&&(i, j)| class(&records[i], &records[j]).is_some()).copied().collect();
+    if !known.is_empty() {
+        return judged_beside(input, output, &records, &known);
     }
     let (agreement, disagreement) = (u32::from(input[0] - b'0'), u32::from(input[1] - b'0'));
     // the Rust's group answers no numbers of pairs: its pair call says which of them overlap
@@ -76,6 +79,26 @@ pub fn judged_by_rust(input: &[u8], output: &[u8]) -> Result<Judged, String> {
     Ok(Judged::Equal { records: records.len(), pairs: pairs.len(), overlapping })
 }
 
+/// The same where these pairs belong to known classes: the Rust has to leave or make all other records as we do.
+fn judged_beside(input: &[u8], output: &[u8], records: &[Vec<u8>], known: &[(usize, usize)]) -> Result<Judged, String> {
+    let line = output.iter().position(|&b| b == b'\n').expect("a line");
+    let ours = model::records(&output[line + 1..]).expect("the group again");
+    let may_panic = known.iter().any(|&(i, j)| class(&records[i], &records[j]) != Some(Class::StepsOnZero));
+    for run in [published::checked::group, published::plain::group] {
+        let mut after = records.to_vec();
+        match run(&mut after, u32::from(input[0] - b'0'), u32::from(input[1] - b'0')) {
+            Ended::Done(_) => {}
+            Ended::Panicked(_) if may_panic => return Ok(Judged::Panicked),
+            other => return Err(format!("the published Rust ended so: {other:?}")),
+        }
+        let beside = |k: &usize| known.iter().all(|&(i, j)| *k != i && *k != j);
+        if (0..records.len()).filter(beside).any(|k| after[k] != ours[k]) {
+            return Err("a record beside the pairs of a known class differs from the published Rust's".into());
+        }
+    }
+    Ok(Judged::Known)
+}
+
 #[derive(Default)]
 struct Tally {
     groups: u64,
@@ -85,6 +108,7 @@ struct Tally {
     overlapping: usize,
     equal: u64,
     known: u64,
+    panicked: u64,
 }
 
 impl Tally {
@@ -94,7 +118,8 @@ impl Tally {
         println!("  refused  {}", refused.join("  "));
         println!("  accepted and equal with both builds of the published Rust: {}", self.equal);
         println!("  in these {} records, {} pairs, {} of them overlapping", self.records, self.pairs, self.overlapping);
-        println!("  accepted with a pair of a known class: {}", self.known);
+        println!("  accepted with a pair of a known class, and all other records equal: {}", self.known);
+        println!("  accepted, and the Rust panicked on a pair of a known class: {}", self.panicked);
     }
 }
 
@@ -115,6 +140,7 @@ fn compare(program: &str, input: &[u8], tally: &mut Tally) -> Result<(), String>
     }
     match judged_by_rust(input, &got)? {
         Judged::Known => tally.known += 1,
+        Judged::Panicked => tally.panicked += 1,
         Judged::Equal { records, pairs, overlapping } => {
             tally.equal += 1;
             tally.records += records;

@@ -39,7 +39,7 @@ fn reads() -> Vec<fn(&mut Read)> {
         (x.codes, x.quals) = (vec![], vec![]);
     }
     vec![
-        // 5 and 6: the last good code and the first bad one, a length of 1 and of 0, front to back
+        // 5: the last good code and the first bad one, of a length of 1 and of 0, front to back
         |x| x.ops[0].0 = X,
         |x| x.ops[0].0 = 9,
         |x| x.ops[0].0 = 15,
@@ -85,7 +85,22 @@ fn reads() -> Vec<fn(&mut Read)> {
         },
         |x| total(x, H, 1 << 34),
         |x| total(x, P, 1 << 34),
-        // as many operations as a record can hold
+        // lengths of 0 alone; as many operations as a record can hold, and one more
+        |x| {
+            x.ops = vec![(M, 0)];
+            bare(x);
+        },
+        |x| x.ops = vec![(M, 0)],
+        |x| {
+            bare(x);
+            x.name.clear();
+            x.ops = vec![(M, 0); 16_376];
+        },
+        |x| {
+            bare(x);
+            x.name.clear();
+            x.ops = vec![(M, 0); 16_377];
+        },
         |x| {
             bare(x);
             x.name.clear();
@@ -195,12 +210,20 @@ pub fn cases() -> Vec<Changed> {
             change(&mut y);
             y.encode()
         });
+        // each operation with the length 0, in front, behind the second operation and at the end
+        let zeros = (0..9).flat_map(|code| {
+            [0, 2, x.ops.len()].map(|at| {
+                let mut y = x.clone();
+                y.ops.insert(at, (code, 0));
+                y.encode()
+            })
+        });
         let raw = bytes().into_iter().map(|change| {
             let mut y = x.encode();
             change(&mut y);
             y
         });
-        [x.encode()].into_iter().chain(parts).chain(raw).collect()
+        [x.encode()].into_iter().chain(parts).chain(zeros).chain(raw).collect()
     };
     let (a, b) = plain();
     let (firsts, seconds, others) = (variants(&a), variants(&b), others());

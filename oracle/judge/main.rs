@@ -26,9 +26,11 @@ judge damaged SEED COUNT                the same with damage
 judge extremes SEED COUNT               positions, lengths and totals at the ends of their ranges
 judge limits                            each limit of the table of refusals, at it and one off
 judge short FIRST SECOND LONGEST SEED   all operation lists of up to so many operations
+judge zeros FIRST SECOND SEED           all lists of M, I and D of up to so many, of lengths 0 to 2
+                                        with `smallest` behind these, except short: the smallest input of each class
 judge groups PROGRAM SEED COUNT         groups through the program's standard input and output
 judge group-limits PROGRAM              each limit of a group, at it and one off
-judge classes                           the smallest inputs on which the Rust wraps or panics
+judge classes                           the smallest inputs on which the Rust does something else
 judge store FOLDER SEED                 writes the stored list of answers
 judge one AGREEMENT DISAGREEMENT COUNTS FIRST SECOND    one pair in hexadecimal, every side shown";
 
@@ -37,12 +39,18 @@ fn main() {
     let word = |i: usize| words.get(i).map(String::as_str).unwrap_or_else(|| usage());
     let number = |i: usize| word(i).parse::<u64>().unwrap_or_else(|_| usage());
     published::listen();
+    let show = |tally: Tally| {
+        if words.last().is_some_and(|w| w == "smallest") {
+            tally.print_smallest();
+        }
+    };
     match word(0) {
-        "random" => seeded("random pairs", random::good, number(1), number(2)),
-        "damaged" => seeded("damaged pairs", random::damaged, number(1), number(2)),
-        "extremes" => seeded("extreme pairs", random::extreme, number(1), number(2)),
+        "random" => show(seeded("random pairs", random::good, number(1), number(2))),
+        "damaged" => show(seeded("damaged pairs", random::damaged, number(1), number(2))),
+        "extremes" => show(seeded("extreme pairs", random::extreme, number(1), number(2))),
         "limits" => limits::run(),
         "short" => short::run(number(1) as u32, number(2) as u32, number(3) as u32, number(4)),
+        "zeros" => show(short::zeros(number(1) as u32, number(2) as u32, number(3))),
         "groups" => groups::run(word(1), number(2), number(3)),
         "group-limits" => groups::run_limits(word(1)),
         "classes" => classes::run(),
@@ -63,13 +71,14 @@ fn usage() -> ! {
     std::process::exit(2)
 }
 
-fn seeded(what: &str, make: fn(&mut Rng) -> Case, seed: u64, count: u64) {
+fn seeded(what: &str, make: fn(&mut Rng) -> Case, seed: u64, count: u64) -> Tally {
     let mut r = Rng::new(seed);
     let mut tally = Tally::default();
     for _ in 0..count {
         check(&make(&mut r), &mut tally);
     }
     tally.print(&format!("{what}, seed {seed}"));
+    tally
 }
 
 /// Shows what every side does with one pair.

@@ -104,16 +104,11 @@ pub fn reference_total(r: &[u8]) -> u64 {
     total(&operations(r), uses_reference)
 }
 
-/// 5 to 8 of the table, in the order of step 7.
+/// 5, 7 and 8 of the table, in the order of step 7. A length of 0 is no fault.
 fn operations_fault(r: &[u8]) -> Option<u32> {
     let ops = operations(r);
-    for &(code, length) in &ops {
-        if code > 8 {
-            return Some(5);
-        }
-        if length == 0 {
-            return Some(6);
-        }
+    if ops.iter().any(|o| o.0 > 8) {
+        return Some(5);
     }
     if l_seq(r) > 0 && !ops.is_empty() && read_total(r) != l_seq(r) {
         return Some(7);

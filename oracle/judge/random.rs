@@ -5,7 +5,8 @@ use crate::rng::Rng;
 /// Qualities at which the rule turns: around 2, half of 93, 93, and the ends.
 pub const TURNING: [u8; 10] = [0, 1, 2, 3, 46, 47, 92, 93, 94, 255];
 
-/// A read whose operations and bases fit each other; all nine operations, all sixteen codes.
+/// A read whose operations and bases fit each other; all nine operations, all sixteen codes. A third
+/// of the reads have lengths of 0, some of them in a row.
 pub fn read(r: &mut Rng) -> Read {
     let mut read = Read { flags: flags(r), name: name(r), spare: r.below(16) as u8, ..Read::default() };
     read.unread = std::array::from_fn(|_| r.next() as u8);
@@ -16,9 +17,11 @@ pub fn read(r: &mut Rng) -> Read {
         _ => r.range(7, 40),
     };
     let longest = if r.one_in(2000) { 12_000 } else { r.pick(&[2, 2, 9, 9, 40, 150]) };
+    let zeros = r.one_in(3);
     for _ in 0..count {
         let code = if r.one_in(2) { M } else { r.below(9) as u32 };
-        read.ops.push((code, r.range(1, longest) as u32));
+        let length = if zeros && r.one_in(3) { 0 } else { r.range(1, longest) as u32 };
+        read.ops.push((code, length));
     }
     let bases = match read.ops.len() {
         0 => r.below(12),
@@ -184,6 +187,9 @@ pub fn extreme(r: &mut Rng) -> Case {
         3 => (i64::from(a.pos) + long(&a) - r.below(20) as i64).clamp(0, LAST) as i32,
         _ => a.pos.saturating_add(r.range(-3, 3) as i32),
     };
+    if r.one_in(8) {
+        b = a.clone();
+    }
     Case {
         first: a.encode(),
         second: b.encode(),
@@ -195,9 +201,9 @@ pub fn extreme(r: &mut Rng) -> Case {
 
 fn extreme_read(r: &mut Rng) -> Read {
     let mut read = Read { name: b"x\0".to_vec(), flags: r.pick(&[65, 129]), ..Read::default() };
-    let huge = |r: &mut Rng| r.pick(&[1, 2, 7, 8, 1 << 27, LONGEST - 7, LONGEST - 1, LONGEST]);
-    let small = |r: &mut Rng| r.range(1, 9) as u32;
-    match r.below(4) {
+    let huge = |r: &mut Rng| r.pick(&[0, 1, 2, 7, 8, 1 << 27, LONGEST - 7, LONGEST - 1, LONGEST]);
+    let small = |r: &mut Rng| r.range(0, 9) as u32;
+    match r.below(5) {
         // a few bases between huge gaps, clips and pads
         0 => {
             for _ in 0..r.range(1, 9) {
@@ -224,11 +230,30 @@ fn extreme_read(r: &mut Rng) -> Read {
             }
             for _ in 0..r.range(1, 3) {
                 let target = (r.range(1, 2) << 31) + r.range(-4, 12) - read.read_length() as i64;
-                fill(r, &mut read, target.max(1) as u64);
+                fill(r, &mut read, &[I, S], target.max(1) as u64);
                 for _ in 0..r.range(1, 3) {
                     read.ops.push((r.pick(&[M, M, EQ, X, D, I, P]), r.range(1, 3) as u32));
                 }
             }
+        }
+        // short operations, many of length 0 and some of these in a row, where each step shows; some
+        // with a gap as long as the reference
+        3 => {
+            for _ in 0..r.range(2, 7) {
+                read.ops.push((r.pick(&[M, M, M, EQ, X, D, N, I, S, P]), r.below(3) as u32));
+                let zeros = if r.one_in(3) { r.below(6) } else { 0 };
+                read.ops.extend((0..zeros).map(|_| (M, 0)));
+            }
+            if r.one_in(2) {
+                let last = read.ops.split_off(r.below(read.ops.len() as u64 + 1) as usize);
+                let used = read.reference_length() + last.iter().filter(|o| uses(o.0).1).map(|o| u64::from(o.1)).sum::<u64>();
+                let gap = LAST as u64 - used - r.below(4);
+                fill(r, &mut read, &[D, N], gap);
+                read.ops.extend(last);
+            }
+            let n = read.read_length();
+            read.codes = codes(r, n);
+            read.quals = qualities(r, n);
         }
         // few operations, none, or an ordinary read
         _ => {
@@ -241,11 +266,11 @@ fn extreme_read(r: &mut Rng) -> Read {
     read
 }
 
-/// Insertions or clips of this total.
-fn fill(r: &mut Rng, read: &mut Read, mut total: u64) {
+/// Operations of these codes, of this total.
+fn fill(r: &mut Rng, read: &mut Read, codes: &[u32], mut total: u64) {
     while total > 0 {
         let length = total.min(u64::from(LONGEST));
-        read.ops.push((r.pick(&[I, S]), length as u32));
+        read.ops.push((r.pick(codes), length as u32));
         total -= length;
     }
 }

@@ -11,6 +11,9 @@ pub fn pair(case: &Case, answer: Answer) -> Vec<String> {
         let counts = unpack(&case.counts).into_iter().enumerate();
         all.extend(counts.map(|(k, n)| format!("{} with count {k} {:?}", answer.code(), kind(n))));
     }
+    for (which, r) in [("first", &case.first), ("second", &case.second)] {
+        all.extend(zeros(r).into_iter().map(|zero| format!("{} with {zero} in the {which}", answer.code())));
+    }
     match answer {
         Answer::NoOverlap => all.extend(apart(&case.first, &case.second)),
         Answer::Overlap => {
@@ -21,6 +24,16 @@ pub fn pair(case: &Case, answer: Answer) -> Vec<String> {
         Answer::Refused { .. } => {}
     }
     all
+}
+
+/// The operations of length 0 of a record whose layout is sound, by code and place.
+fn zeros(r: &[u8]) -> Vec<String> {
+    if model::record_fault(r).is_some() {
+        return vec![];
+    }
+    let ops = model::operations(r);
+    let place = |k: usize| if k == 0 { "front" } else if k + 1 == ops.len() { "end" } else { "middle" };
+    (0..ops.len()).filter(|&k| ops[k].1 == 0).map(|k| format!("0 of {} at the {}", ops[k].0, place(k))).collect()
 }
 
 /// Why there may be no overlap.

@@ -61,7 +61,7 @@ void give_again(const char *what);
 struct read {
     const char *name;                        /* NULL stands for a name length of 0 */
     uint32_t flags, ref_id, pos;
-    uint32_t operation_count, operations[8]; /* length * 16 + code */
+    uint32_t operation_count, operations[12]; /* length * 16 + code */
     uint32_t count;                          /* of bases */
     uint8_t codes[64], qualities[64];
     uint32_t tags;                           /* how many bytes of them */

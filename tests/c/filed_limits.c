@@ -181,6 +181,28 @@ static void limits_of_records(void)
     expect_bare("2863311531 bases, which 32 bits would take for 1", 64, L_SEQ, 4, 2863311531, 4);
 }
 
+/* As many operations of length 0 as a record holds, 16,376, and one more, in either mate; and the last of them unknown. */
+static void lengths_of_zero(void)
+{
+    for (uint32_t count = 16376; count <= 16377; count++) {
+        for (size_t k = 0; k < 2; k++) {
+            for (int unknown = 0; unknown <= 1; unknown++) {
+                start_group();
+                if (k == 1)
+                    add_plain("", 64, 9, 30);
+                add_bare(NAME + 4 * count, OPERATION_COUNT, 2, count);
+                put(record(k) + FLAGS, 2, k == 0 ? 64 : 128);
+                put(record(k) + NAME + 4 * (count - 1), 4, unknown ? 9 : 0);
+                if (k == 0)
+                    add_plain("", 128, 9, 30);
+                finish(0);
+                expect(text("%u lengths of 0 in mate %zu, unknown: %d", count, k, unknown),
+                       count > 16376 ? REFUSED(2, k) : unknown ? REFUSED(5, k) : 0);
+            }
+        }
+    }
+}
+
 /* A size and so many bytes behind it, as the last frame of a group without a trailer. */
 static void expect_size(uint64_t size, size_t left, uint32_t fault)
 {
@@ -234,6 +256,7 @@ void limits(void)
     limits_of_buffers();
     carries();
     limits_of_records();
+    lengths_of_zero();
     limits_of_sizes();
     longest_mates();
 }

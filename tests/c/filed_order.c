@@ -4,14 +4,14 @@
 /* What can be wrong with a call, some of it in each record. */
 enum kind {
     COUNTS_SLICE, COUNT, PAST_END, SHORT, LONG, NAME_PAST, BASES_PAST, ZERO_WITHIN, MANY, LEFT, MISSING, TRAILER_49, TRAILER_51,
-    BAD_STATE, BAD_STRATEGIES, BAD_RECORDS, BAD_DISTANCE, GROWN, DONE, CODE, LENGTH, TOTAL, END, OUT_SHORT, NO_FAULT
+    BAD_STATE, BAD_STRATEGIES, BAD_RECORDS, BAD_DISTANCE, GROWN, DONE, CODE, TOTAL, END, OUT_SHORT, NO_FAULT
 };
 
 #define FRAME_FAULTS(k) \
     {"a size past the end in " #k, PAST_END, k, REFUSED(11, k)}, {"short " #k, SHORT, k, REFUSED(1, k)}, \
     {"long " #k, LONG, k, REFUSED(2, k)}, {"name in " #k, NAME_PAST, k, REFUSED(3, k)}, {"bases in " #k, BASES_PAST, k, REFUSED(4, k)}
 #define PAIR_FAULTS(k) \
-    {"code in " #k, CODE, k, REFUSED(5, k)}, {"length in " #k, LENGTH, k, REFUSED(6, k)}, \
+    {"code in " #k, CODE, k, REFUSED(5, k)}, \
     {"total of " #k, TOTAL, k, REFUSED(7, k)}, {"end of " #k, END, k, REFUSED(8, k)}
 
 /* The faults in the order of judgement, with the answer that each gives alone. Of the four records 0 and 3
@@ -28,8 +28,8 @@ static const struct fault { const char *name; enum kind kind; int record; uint32
 };
 enum { FAULT_COUNT = sizeof FAULTS / sizeof FAULTS[0] };
 
-/* Which faults the call has that is being built. */
-static int has[NO_FAULT + 1][4];
+/* Which faults the call has that is being built, and whether its reads have lengths of 0 around each operation. */
+static int has[NO_FAULT + 1][4], zeros;
 
 /* Whether two faults can't stand together: of one size, or of a trailer that isn't there. */
 static int exclude(const struct fault *a, const struct fault *b)
@@ -43,6 +43,16 @@ static int exclude(const struct fault *a, const struct fault *b)
     return a->record == b->record && ((a->kind == PAST_END && b->kind == SHORT) || (a->kind == SHORT && b->kind == LONG));
 }
 
+/* Puts an operation of length 0 before each of the four and behind the last, each of another code. */
+static void spread(struct read *r)
+{
+    for (uint32_t i = 4; i-- > 0; )
+        r->operations[2 * i + 1] = r->operations[i];
+    for (uint32_t i = 0; i <= 4; i++)
+        r->operations[2 * i] = (i * 2) % 9;
+    r->operation_count = 9;
+}
+
 /* Each fault of a pair has an operation of its own. The positions lie just before the last. */
 static void add_faulty(int k)
 {
@@ -51,12 +61,12 @@ static void add_faulty(int k)
                      .count = 6, .codes = {1, 1, 2, 4, 8, 1}, .qualities = {30, 30, 30, 30, 30, 30}};
     if (has[CODE][k])
         r.operations[0] = 1 * 16 + 9;
-    if (has[LENGTH][k])
-        r.operations[1] = 0;
     if (has[TOTAL][k])
         r.operations[2] = 3 * 16;
     if (has[END][k])
         r.operations[3] = 0xFFFFFFF2;
+    if (zeros)
+        spread(&r);
     add(&r);
     if (has[NAME_PAST][k])
         put(record(records - 1) + OPERATION_COUNT, 2, 65535);
@@ -160,6 +170,9 @@ static void order_of_all(void)
 
 void order_of_judgement(void)
 {
-    order_of_two();
-    order_of_all();
+    for (zeros = 0; zeros <= 1; zeros++) {
+        order_of_two();
+        order_of_all();
+    }
+    zeros = 0;
 }

@@ -1,14 +1,14 @@
 /* Random groups, given again, damaged and cut off. */
 #include "filed.h"
 
-/* Operations, mostly M; of a spoiled read now and then one of length 0 or of no known code. */
+/* Operations, mostly M, some of length 0; of a spoiled read now and then one of no known code. */
 static void random_operations(struct read *r, int spoiled)
 {
     r->operation_count = once_in(32) ? 0 : 1 + below(4);
     r->count = 0;
     for (uint32_t i = 0; i < r->operation_count; i++) {
         uint32_t code = once_in(3) ? below(9) : 0, length = 1 + below(5);
-        if (spoiled && once_in(12))
+        if (once_in(8))
             length = 0;
         if (spoiled && once_in(12))
             code = 9 + below(7);
@@ -107,7 +107,7 @@ static void damage(const struct call *from, const char *what, unsigned i)
 
 void random_groups(unsigned groups)
 {
-    const int numbers[] = {1, 3, 4, 5, 6, 7, 8, 9, 11, 19, 20, 21};
+    const int numbers[] = {1, 3, 4, 5, 7, 8, 9, 11, 19, 20, 21};
     static struct call raw, corrected;
     for (unsigned i = 0; i < groups; i++) {
         random_group();

@@ -1,6 +1,6 @@
 /*
  * What the files of the program judged share: records built from texts, and calls on a pair of them with watched bytes
- * behind. judged_limits.c and judged_order.c are a topic each, with a function for main at its end.
+ * behind. judged_limits.c, judged_zeros.c and judged_order.c are a topic each, with a function for main at its end.
  */
 #ifndef JUDGED_H
 #define JUDGED_H
@@ -46,6 +46,9 @@ void build(struct record *r, int32_t pos, const char *operations, const char *ba
 /* A record of `count` bases, all of one code and quality. */
 void build_plain(struct record *r, int32_t pos, const char *operations, uint32_t count, uint8_t code, uint8_t quality);
 
+/* A record with no name and `count` times one operation, and `bases` bases, all zero bytes. */
+void build_many(struct record *r, uint32_t count, uint32_t length, uint32_t code, uint32_t bases);
+
 /* ---- Calls: judged_calls.c ---- */
 
 /* What a call is given, and the same after it. The bytes behind those of the counts are watched too. */
@@ -70,9 +73,16 @@ void expect_answer(const char *what, uint32_t answer);
 /* Expects both records as they are given here after the call, and the counts grown by so much. */
 void expect_after(const char *what, const struct record *first, const struct record *second, const uint64_t *growth);
 
+/* What a record is expected to give beside a good one: 0, 1, or a refusal at its place. */
+#define REFUSED(number) (1000u + (number))
+
+/* Tries the record in given.first as the first of a pair and as the second. */
+void at_each_place(const char *what, uint32_t expected);
+
 /* ---- Topics ---- */
 
 void limits(void);
+void lengths_of_zero(void);
 void order_of_judgement(void);
 
 #endif

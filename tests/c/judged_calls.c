@@ -50,6 +50,16 @@ void build_plain(struct record *r, int32_t pos, const char *operations, uint32_t
     lay(r, pos, operations, codes, quals, count);
 }
 
+void build_many(struct record *r, uint32_t count, uint32_t length, uint32_t code, uint32_t bases)
+{
+    memset(r->bytes, 0, sizeof r->bytes);
+    r->len = NAME + 4 * count + (bases + 1) / 2 + bases;
+    set(r, OPERATION_COUNT, 2, count);
+    set(r, L_SEQ, 4, bases);
+    for (uint32_t i = 0; i < count; i++)
+        set(r, (int)(NAME + 4 * i), 4, length * 16 + code);
+}
+
 /* ---- Calls ---- */
 
 void start_call(void)
@@ -90,4 +100,17 @@ void expect_after(const char *what, const struct record *first, const struct rec
     check_bytes(what, "first record", first->bytes, after.first.bytes, sizeof first->bytes);
     check_bytes(what, "second record", second->bytes, after.second.bytes, sizeof second->bytes);
     check_bytes(what, "counts", expected, after.counts, sizeof expected);
+}
+
+void at_each_place(const char *what, uint32_t expected)
+{
+    static struct record r;
+    char placed[200];
+    memcpy(&r, &given.first, sizeof r);
+    for (int place = 1; place <= 2; place++) {
+        good_pair();
+        memcpy(place == 1 ? &given.first : &given.second, &r, sizeof r);
+        snprintf(placed, sizeof placed, "%s, at place %d", what, place);
+        expect_answer(placed, expected < 1000 ? expected : expected + 100 * (uint32_t)place);
+    }
 }

@@ -1,25 +1,6 @@
 /* When two records are not compared at all, and each refusal at its limit and one off. */
 #include "judged.h"
 
-/* ---- One record beside a good one ---- */
-
-/* What a record is expected to give beside a good one: 0, 1, or a refusal at its place. */
-#define REFUSED(number) (1000u + (number))
-
-/* Tries the record in given.first as the first of a pair and as the second. */
-static void at_each_place(const char *what, uint32_t expected)
-{
-    static struct record r;
-    char placed[200];
-    memcpy(&r, &given.first, sizeof r);
-    for (int place = 1; place <= 2; place++) {
-        good_pair();
-        memcpy(place == 1 ? &given.first : &given.second, &r, sizeof r);
-        snprintf(placed, sizeof placed, "%s, at place %d", what, place);
-        expect_answer(placed, expected < 1000 ? expected : expected + 100 * (uint32_t)place);
-    }
-}
-
 /* ---- Steps 4 to 6: when two records are not compared at all ---- */
 
 static void expect_ids(const char *what, uint32_t first, uint32_t second, uint32_t answer)
@@ -94,12 +75,8 @@ static void limits_of_operations(void)
         build(r, 9, "4M1M", "AAAA", "1 2 3 4"); set_operation(r, 1, 1, code); set(r, L_SEQ, 4, 0);
         at_each_place(text("operation code %u", code), code <= 8 ? 0 : REFUSED(5));
         build(r, 9, "4M1M", "AAAA", "1 2 3 4"); set_operation(r, 1, 0, code);
-        at_each_place(text("operation code %u, length 0", code), code <= 8 ? REFUSED(6) : REFUSED(5));
+        at_each_place(text("operation code %u, length 0", code), code <= 8 ? 1 : REFUSED(5));
     }
-    build(r, 9, "4M1M", "AAAA", "1 2 3 4"); set_operation(r, 0, 0, 0); set_operation(r, 1, 1, 9);
-    at_each_place("a length of 0 before a code of 9", REFUSED(6));
-    build(r, 9, "4M1M", "AAAA", "1 2 3 4"); set_operation(r, 0, 1, 9); set_operation(r, 1, 0, 0);
-    at_each_place("a code of 9 before a length of 0", REFUSED(5));
     build(r, 9, "4M1M", "AAAA", "1 2 3 4"); set_operation(r, 0, LONGEST_OPERATION, 15);
     at_each_place("all bits of an operation set", REFUSED(5));
 
@@ -120,14 +97,9 @@ static void limits_of_operations(void)
     build(r, 2147483647, "", "", ""); at_each_place("pos 2147483647, no operations", REFUSED(8));
 }
 
-/* A record with no name and `count` times the longest operation of a code, and `bases` bases. */
 static void many(uint32_t count, uint32_t code, uint32_t bases)
 {
-    bare(NAME + 4 * count + (bases + 1) / 2 + bases);
-    set(&given.first, OPERATION_COUNT, 2, count);
-    set(&given.first, L_SEQ, 4, bases);
-    for (uint32_t i = 0; i < count; i++)
-        set(&given.first, (int)(NAME + 4 * i), 4, LONGEST_OPERATION * 16 + code);
+    build_many(&given.first, count, LONGEST_OPERATION, code, bases);
 }
 
 /* Totals that pass 32 bits. 16,376 operations are all that fit: 16,383 make the record too long. */
@@ -186,6 +158,7 @@ void limits(void)
     not_compared();
     limits_of_layout();
     limits_of_operations();
+    lengths_of_zero();
     large_totals();
     limits_of_the_call();
 }

@@ -6,7 +6,7 @@ use mathlib.Core.Option.{none, some}
 use mathlib.Core.Logic.{_⊎_, ⊎-elim}
 use native.Mathlib.Omega.{arith}
 use lib.ListN.{length, take, drop}
-use lib.Seq.{getD-take}
+use lib.Seq.{getD-take, length-take-le}
 use Rattle.cigar.specs.Operation.{Both, kind, len, readLen, refLen, readSum, refSum, opsOf}
 use Rattle.cigar.specs.declared.Cursor.{Cursor}
 use Rattle.fields.specs.Number.{unsigned}
@@ -100,6 +100,28 @@ le-take (suc w) l e at h =
 
 pub kept-stands : (cig : List ℕ) (c d : Cursor) → Stands cig c → SameBases cig c d → d .at ≤ length cig → Stands cig d
 kept-stands cig c d s k h = record { within = h; reads = omega (arith, s .reads, k .reads); refs = omega (arith, s .refs, k .refs) }
+
+-- a turn of `settle`, at the operation that stands where `cur` is, in the record's bytes `s` up to `end`
+abbrev pub Turned : List ℕ → ℕ → Cursor → Cursor → Type 0
+Turned s end c cur = (cur .at ≤ end) × SameBases (take end s) c cur
+
+module _ (s : List ℕ) (end : ℕ) (fits : end ≤ length s) (c cur : Cursor) (h : Turned s end c cur) where
+  pub turned-stands : Stands (take end s) c → Stands (take end s) cur
+  turned-stands k = kept-stands (take end s) c cur k (h .1) (omega (arith, length-take-le end s fits))
+
+  module _ (op : ℕ) (is : op ≡ unsigned 4 s (cur .at)) (whole : cur .at + 4 ≤ end) where
+    here : op ≡ unsigned 4 (take end s) (cur .at)
+    here = is ∙ sym (le-take 4 s end (cur .at) whole)
+
+    inside : cur .at + 4 ≤ length (take end s)
+    inside = omega (arith, length-take-le end s fits)
+
+    pub turn-join : kind op ≡ Both → Turned s end c (cursor (cur .at + 4) (cur .offset .0) (cur .position .0) (cur .left + len op))
+    turn-join b = (whole, kept-trans (take end s) c cur _ (h .1) (join-kept (take end s) cur op here inside b))
+
+    pub turn-skip : (kind op ≡ Both → ⊥) → cur .left ≡ 0
+        → Turned s end c (cursor (cur .at + 4) (cur .offset .0 + readLen op) (cur .position .0 + refLen op) (cur .left))
+    turn-skip b e = (whole, kept-trans (take end s) c cur _ (h .1) (skip-kept (take end s) cur op here inside b e))
 
 pub advanced-stands : (cig : List ℕ) (c : Cursor) (d : ℕ) → Stands cig c → d ≤ c .left → Stands cig (advanced c d)
 advanced-stands cig c d s h = record { within = s .within; reads = omega (arith, s .reads); refs = omega (arith, s .refs) }

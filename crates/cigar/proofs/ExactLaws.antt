@@ -1,4 +1,4 @@
--- Refusals 5 to 7 are given exactly when the document says.
+-- Refusals 5 and 7 are given exactly when the document says.
 use Prim.Native.Nat.{ℕ, _%_, _≤_, _<_}
 use mathlib.Core.Path.{_≡_, refl, sym, ap, _∙_}
 use mathlib.Core.List.{List, [], _∷_, _++_, append-nil}
@@ -8,18 +8,18 @@ use native.Mathlib.Omega.{arith}
 use lib.ListN.{length}
 use lib.Dec.{eqb, ltb}
 use borrow.Author.Tests.{ltb-true, ltb-false, eqb-true, eqb-false}
-use Rattle.refusal.specs.declared.Refusal.the-variants.{OperationCode, OperationLength, ReadTotal}
+use Rattle.refusal.specs.declared.Refusal.the-variants.{OperationCode, ReadTotal}
 use Rattle.fields.specs.declared.Layout.{Layout}
 use Rattle.fields.proofs.Arith.{lt-or-le}
-use Rattle.cigar.specs.Operation.{Unknown, kind, len, readSum, refSum, opsIn}
+use Rattle.cigar.specs.Operation.{Unknown, kind, readSum, refSum, opsIn}
 use Rattle.cigar.specs.declared.Walk.{Walk}
-use Rattle.cigar.specs.declared.Walk.the-variants.{Totals, UnknownCode, ZeroLength}
+use Rattle.cigar.specs.declared.Walk.the-variants.{Totals, UnknownCode}
 use Rattle.cigar.specs.declared.Operations.{Operations}
 use Rattle.cigar.specs.declared.Operations.the-variants as Ops
-use Rattle.cigar.specs.Judge.{onKind, onLength, faultOr, walkOf, judged, operationsOf}
-use Rattle.cigar.specs.Exact.{BadCode, BadLength, BadTotal, Faultless, FirstFault, GivenExactly}
+use Rattle.cigar.specs.Judge.{onKind, faultOr, walkOf, judged, operationsOf}
+use Rattle.cigar.specs.Exact.{BadCode, BadTotal, Faultless, FirstFault, GivenExactly}
 use Rattle.cigar.proofs.PlaceLaws.{kind-bad}
-use Rattle.cigar.proofs.JudgeLaws.{known-kind, some-length}
+use Rattle.cigar.proofs.JudgeLaws.{known-kind}
 
 -- a code above 8 is one that no kind of operation has
 pub bad-unknown : (op : ℕ) → BadCode op ↔ (kind op ≡ Unknown)
@@ -38,9 +38,9 @@ none-faulty [] op after e = let z : _≡_ {A = ℕ} 0 1 = cc in absurd (omega ar
 none-faulty (b ∷ before) op after e = let z : _≡_ {A = ℕ} 0 1 = cc in absurd (omega arith)
 
 -- one more in front, itself without fault
-one-more : {w : ℕ} {ws : List ℕ} → w % 16 ≤ 8 → 0 < len w → Faultless ws → Faultless (w ∷ ws)
-one-more {w} {ws} c n h [] op after e = let same : w ≡ op = cc in rw (← same) (c, n)
-one-more {w} {ws} c n h (b ∷ before) op after e = h before op after (cc)
+one-more : {w : ℕ} {ws : List ℕ} → w % 16 ≤ 8 → Faultless ws → Faultless (w ∷ ws)
+one-more {w} {ws} c h [] op after e = let same : w ≡ op = cc in rw (← same) c
+one-more {w} {ws} c h (b ∷ before) op after e = h before op after (cc)
 
 -- one less in front
 one-less : {w : ℕ} {ws : List ℕ} → Faultless (w ∷ ws) → Faultless ws
@@ -50,70 +50,54 @@ one-less {w} h before op after e = h (w ∷ before) op after (ap (λ (l : List �
 pass-front : (before rest : List ℕ) (good : Walk) → Faultless before → faultOr (before ++ rest) good ≡ faultOr rest good
 unfolding faultOr
 pass-front [] rest good h = refl
-pass-front (w ∷ ws) rest good h =
-    let g = h [] w ws refl in
-    known-kind (w % 16) _ (g .0) ∙ (some-length (len w) _ (λ e. omega arith) ∙ pass-front ws rest good (one-less h))
+pass-front (w ∷ ws) rest good h = known-kind (w % 16) _ (h [] w ws refl) ∙ pass-front ws rest good (one-less h)
 
 -- all of them where there is no other,
 pass-all : (ops : List ℕ) (good : Walk) → Faultless ops → faultOr ops good ≡ good
 unfolding faultOr
 pass-all ops good h = rw append-nil at (pass-front ops [] good h)
 
--- and stops at the first that is faulty:
-stop-at : {fault : ℕ → Type 0} {ops : List ℕ} (good : Walk) (f : FirstFault fault ops)
-    → faultOr ops good ≡ onKind (kind (f .op)) (onLength (len (f .op)) (faultOr (f .after) good))
+-- and stops at the first that is faulty
+stop-code : (ops : List ℕ) (good : Walk) → FirstFault ops → faultOr ops good ≡ UnknownCode
 unfolding faultOr
-stop-at good f = ap (λ (l : List ℕ). faultOr l good) (f .split) ∙ pass-front (f .before) (f .op ∷ f .after) good (f .passed)
-
--- at its code,
-stop-code : (ops : List ℕ) (good : Walk) → FirstFault BadCode ops → faultOr ops good ≡ UnknownCode
-stop-code ops good f = stop-at good f ∙ rw (kind-bad (f .op % 16) (f .faulty))
-
--- or at its length
-stop-length : (ops : List ℕ) (good : Walk) → FirstFault BadLength ops → faultOr ops good ≡ ZeroLength
-stop-length ops good f = stop-at good f ∙ (known-kind (f .op % 16) _ (f .faulty .0) ∙ rw (f .faulty .1))
+stop-code ops good f =
+    ap (λ (l : List ℕ). faultOr l good) (f .split)
+    ∙ (pass-front (f .before) (f .op ∷ f .after) good (f .passed) ∙ rw (kind-bad (f .op % 16) (f .faulty)))
 
 -- there is a first faulty operation, or none is
-first-fault : (ops : List ℕ) → FirstFault BadCode ops ⊎ (FirstFault BadLength ops ⊎ Faultless ops)
-first-fault [] = inr (inr none-faulty)
-first-fault (w ∷ ws) = go (first-fault ws) (lt-or-le 8 (w % 16)) (lt-or-le 0 (len w))
+first-fault : (ops : List ℕ) → FirstFault ops ⊎ Faultless ops
+first-fault [] = inr none-faulty
+first-fault (w ∷ ws) = go (first-fault ws) (lt-or-le 8 (w % 16))
   where
-    here : {fault : ℕ → Type 0} → fault w → FirstFault fault (w ∷ ws)
+    here : BadCode w → FirstFault (w ∷ ws)
     here h = record { before = []; op = w; after = ws; split = refl; passed = none-faulty; faulty = h }
 
-    later : {fault : ℕ → Type 0} → w % 16 ≤ 8 → 0 < len w → FirstFault fault ws → FirstFault fault (w ∷ ws)
-    later c n f =
+    later : w % 16 ≤ 8 → FirstFault ws → FirstFault (w ∷ ws)
+    later c f =
         record {
           before = w ∷ f .before;
           op = f .op;
           after = f .after;
           split = ap (λ (l : List ℕ). w ∷ l) (f .split);
-          passed = one-more c n (f .passed);
+          passed = one-more c (f .passed);
           faulty = f .faulty;
         }
 
-    go : FirstFault BadCode ws ⊎ (FirstFault BadLength ws ⊎ Faultless ws) → (8 < w % 16) ⊎ (w % 16 ≤ 8) → (0 < len w) ⊎ (len w ≤ 0)
-        → FirstFault BadCode (w ∷ ws) ⊎ (FirstFault BadLength (w ∷ ws) ⊎ Faultless (w ∷ ws))
-    go r (inl c) n = inl (here c)
-    go r (inr c) (inr n) = inr (inl (here (c, omega arith)))
-    go (inl f) (inr c) (inl n) = inl (later c n f)
-    go (inr (inl f)) (inr c) (inl n) = inr (inl (later c n f))
-    go (inr (inr h)) (inr c) (inl n) = inr (inr (one-more c n h))
+    go : FirstFault ws ⊎ Faultless ws → (8 < w % 16) ⊎ (w % 16 ≤ 8) → FirstFault (w ∷ ws) ⊎ Faultless (w ∷ ws)
+    go r (inl c) = inl (here c)
+    go (inl f) (inr c) = inl (later c f)
+    go (inr h) (inr c) = inr (one-more c h)
 
 -- ---- the answers
 -- each answer, with what it is given for
 data Given (count : ℕ) (ops : List ℕ) (place : ℕ) : Operations → Type 0 where
-  by-code : FirstFault BadCode ops → Given count ops place (Ops.Refused (OperationCode place))
-  by-length : FirstFault BadLength ops → Given count ops place (Ops.Refused (OperationLength place))
+  by-code : FirstFault ops → Given count ops place (Ops.Refused (OperationCode place))
   by-total : Faultless ops → BadTotal count ops → Given count ops place (Ops.Refused (ReadTotal place))
   passes : Faultless ops → (BadTotal count ops → ⊥) → Given count ops place (Ops.Uses (refSum ops))
 
 -- the reason of an answer
-code-of : {count : ℕ} {ops : List ℕ} {place at : ℕ} → Given count ops place (Ops.Refused (OperationCode at)) → FirstFault BadCode ops
+code-of : {count : ℕ} {ops : List ℕ} {place at : ℕ} → Given count ops place (Ops.Refused (OperationCode at)) → FirstFault ops
 code-of (by-code f) = f
-
-length-of : {count : ℕ} {ops : List ℕ} {place at : ℕ} → Given count ops place (Ops.Refused (OperationLength at)) → FirstFault BadLength ops
-length-of (by-length f) = f
 
 total-of : {count : ℕ} {ops : List ℕ} {place at : ℕ} → Given count ops place (Ops.Refused (ReadTotal at)) → Faultless ops × BadTotal count ops
 total-of (by-total h t) = (h, t)
@@ -141,11 +125,8 @@ module _ (y : Layout) (s : List ℕ) (place : ℕ) where
   answer-of w e = ap (judged (y .count) (length (opsIn y s)) place) e
 
   -- where a condition holds, its answer is given
-  code-given : FirstFault BadCode (opsIn y s) → operationsOf y s place ≡ Ops.Refused (OperationCode place)
+  code-given : FirstFault (opsIn y s) → operationsOf y s place ≡ Ops.Refused (OperationCode place)
   code-given f = answer-of UnknownCode (stop-code (opsIn y s) _ f)
-
-  length-given : FirstFault BadLength (opsIn y s) → operationsOf y s place ≡ Ops.Refused (OperationLength place)
-  length-given f = answer-of ZeroLength (stop-length (opsIn y s) _ f)
 
   -- without a faulty operation the read total decides
   totals-of : Faultless (opsIn y s)
@@ -162,33 +143,29 @@ module _ (y : Layout) (s : List ℕ) (place : ℕ) where
   given : Given (y .count) (opsIn y s) place (operationsOf y s place)
   given = go (first-fault (opsIn y s)) (total-tested (y .count) (opsIn y s))
     where
-      go : FirstFault BadCode (opsIn y s) ⊎ (FirstFault BadLength (opsIn y s) ⊎ Faultless (opsIn y s))
+      go : FirstFault (opsIn y s) ⊎ Faultless (opsIn y s)
           → Tested (y .count) (opsIn y s) (ltb 0 (y .count) && ltb 0 (length (opsIn y s)) && not (eqb (readSum (opsIn y s)) (y .count)))
           → Given (y .count) (opsIn y s) place (operationsOf y s place)
       go (inl f) t = rw (code-given f) (by-code f)
-      go (inr (inl f)) t = rw (length-given f) (by-length f)
-      go (inr (inr h)) (inl t) = rw (total-given h (t .0)) (by-total h (t .0))
-      go (inr (inr h)) (inr t) = rw (uses-given h (t .0)) (passes h (t .0))
+      go (inr h) (inl t) = rw (total-given h (t .0)) (by-total h (t .0))
+      go (inr h) (inr t) = rw (uses-given h (t .0)) (passes h (t .0))
 
   -- whatever the answer is, it is given for its reason
   given-as : {r : Operations} → operationsOf y s place ≡ r → Given (y .count) (opsIn y s) place r
   given-as e = rw e at given
 
-  -- refusals 5 to 7 are given exactly when the document says, and there is no other answer
+  -- refusals 5 and 7 are given exactly when the document says, and there is no other answer
   pub operations-exact : GivenExactly (y .count) (opsIn y s) place (operationsOf y s place)
   operations-exact =
       record {
         code = (λ e. code-of (given-as e), code-given);
-        length = (λ e. length-of (given-as e), length-given);
         total = (λ e. total-of (given-as e), λ h. total-given (h .0) (h .1));
         uses = λ n. (λ e. uses-of (given-as e), λ h. uses-given (h .0) (h .1) ∙ ap Ops.Uses (sym (h .2)));
         decided = one-of given;
       }
     where
       one-of : {r : Operations} → Given (y .count) (opsIn y s) place r
-          → (r ≡ Ops.Refused (OperationCode place)) ⊎ ((r ≡ Ops.Refused (OperationLength place))
-          ⊎ ((r ≡ Ops.Refused (ReadTotal place)) ⊎ (r ≡ Ops.Uses (refSum (opsIn y s)))))
+          → (r ≡ Ops.Refused (OperationCode place)) ⊎ ((r ≡ Ops.Refused (ReadTotal place)) ⊎ (r ≡ Ops.Uses (refSum (opsIn y s))))
       one-of (by-code f) = inl refl
-      one-of (by-length f) = inr (inl refl)
-      one-of (by-total h t) = inr (inr (inl refl))
-      one-of (passes h t) = inr (inr (inr refl))
+      one-of (by-total h t) = inr (inl refl)
+      one-of (passes h t) = inr (inr refl)

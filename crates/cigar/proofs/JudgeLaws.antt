@@ -11,13 +11,13 @@ use borrow.Author.Tests.{lt-ltb, le-ltb, eq-eqb, ne-eqb, eqb-true, ltb-false}
 use Rattle.refusal.specs.declared.Refusal.the-variants.{ReadTotal, ReferenceEnd}
 use Rattle.fields.specs.declared.Layout.{Layout}
 use Rattle.fields.specs.Number.{unsigned}
-use Rattle.cigar.specs.Operation.{Kind, Both, Reference, Read, Neither, Unknown, kindOf, kind, len, readLen, refLen, readSum, refSum, operations, opsIn}
+use Rattle.cigar.specs.Operation.{Kind, Both, Reference, Read, Neither, Unknown, kindOf, kind, readLen, refLen, readSum, refSum, operations, opsIn}
 use Rattle.cigar.specs.declared.Walk.{Walk}
-use Rattle.cigar.specs.declared.Walk.the-variants.{Totals, UnknownCode, ZeroLength}
+use Rattle.cigar.specs.declared.Walk.the-variants.{Totals, UnknownCode}
 use Rattle.cigar.specs.declared.Operations.the-variants as Ops
 use Rattle.cigar.specs.declared.Span.the-variants as Spans
 use Rattle.cigar.specs.declared.Extent.{Extent}
-use Rattle.cigar.specs.Judge.{onKind, onLength, faultOr, walkOf, judged, operationsOf, extent, spanOf}
+use Rattle.cigar.specs.Judge.{onKind, faultOr, walkOf, judged, operationsOf, extent, spanOf}
 use Rattle.cigar.proofs.PlaceLaws.{kind-bad, ops-step, ops-short}
 use Rattle.cigar.proofs.CursorLaws.{le-take}
 
@@ -33,11 +33,6 @@ known-kind (suc (suc (suc (suc (suc (suc zero)))))) x h = refl
 known-kind (suc (suc (suc (suc (suc (suc (suc zero))))))) x h = refl
 known-kind (suc (suc (suc (suc (suc (suc (suc (suc zero)))))))) x h = refl
 known-kind (suc (suc (suc (suc (suc (suc (suc (suc (suc n))))))))) x h = absurd (omega arith)
-
--- at a length above 0 the walk goes on
-pub some-length : (m : ℕ) (x : Walk) → (m ≡ 0 → ⊥) → onLength m x ≡ x
-some-length zero x h = absurd (h refl)
-some-length (suc m) x h = refl
 
 -- what the walk has left to say at byte `at`, with so much used before it
 abbrev pub fromHere : List ℕ → ℕ → ℕ → Walk
@@ -75,26 +70,23 @@ module _ (l : List ℕ) (from end : ℕ) (fits : end ≤ length l) where
       split : operations at end l ≡ w ∷ operations (at + 4) end l
       split = ops-step (take end l) at (omega (arith, long)) ∙ ap (λ (x : ℕ). x ∷ operations (at + 4) end l) (le-take 4 l end at more ∙ sym is)
 
-      next : onKind (kind w) (onLength (len w) (fromHere (operations (at + 4) end l) (q + readLen w) (r + refLen w))) ≡ walkOf (operations from end l)
+      next : onKind (kind w) (fromHere (operations (at + 4) end l) (q + readLen w) (r + refLen w)) ≡ walkOf (operations from end l)
       unfolding faultOr readSum refSum
       next =
-          ap (λ (x : Walk). onKind (kind w) (onLength (len w) x)) (totals-as (operations (at + 4) end l) _ _ _ _ (omega arith) (omega arith))
+          ap (onKind (kind w)) (totals-as (operations (at + 4) end l) _ _ _ _ (omega arith) (omega arith))
           ∙ (rw split at (h .left))
 
       pub walking-code : 8 < w % 16 → UnknownCode ≡ walkOf (operations from end l)
       walking-code k = (rw (kind-bad (w % 16) k) at next)
 
-      pub walking-zero : w % 16 ≤ 8 → w / 16 ≡ 0 → ZeroLength ≡ walkOf (operations from end l)
-      walking-zero k e = sym (known-kind (w % 16) _ k ∙ ap (λ (x : ℕ). onLength x (fromHere (operations (at + 4) end l) (q + readLen w) (r + refLen w))) e) ∙ next
-
-      pub walking-turn : (a b : ℕ) → w < 4294967296 → w % 16 ≤ 8 → (w / 16 ≡ 0 → ⊥) → (a ≡ readLen w) × (a ≤ w / 16) → (b ≡ refLen w) × (b ≤ w / 16)
+      pub walking-turn : (a b : ℕ) → w < 4294967296 → w % 16 ≤ 8 → (a ≡ readLen w) × (a ≤ w / 16) → (b ≡ refLen w) × (b ≤ w / 16)
           → Walking l from end (at + 4) (q + a) (r + b)
-      walking-turn a b hw hc hm ha hb =
+      walking-turn a b hw hc ha hb =
           record {
             low = more;
             reads = omega (arith, h .reads, ha .1);
             refs = omega (arith, h .refs, hb .1);
-            left = rw (ha .0, hb .0) (sym (known-kind (w % 16) _ hc ∙ some-length (w / 16) _ hm) ∙ next);
+            left = rw (ha .0, hb .0) (sym (known-kind (w % 16) _ hc) ∙ next);
           }
 
 -- ---- what is judged of the walk's answer
@@ -137,14 +129,10 @@ module _ (y : Layout) (l : List ℕ) (place : ℕ) where
   through-kind Neither x q r e = e
   through-kind Unknown x q r e = let z : _≡_ {A = ℕ} 0 1 = cc in absurd (omega arith)
 
-  through-length : (n : ℕ) (x : Walk) (q r : ℕ) → onLength n x ≡ Totals q r → x ≡ Totals q r
-  through-length zero x q r e = let z : _≡_ {A = ℕ} 0 1 = cc in absurd (omega arith)
-  through-length (suc n) x q r e = e
-
   good-totals : (ops : List ℕ) (good : Walk) (q r : ℕ) → faultOr ops good ≡ Totals q r → good ≡ Totals q r
   unfolding faultOr
   good-totals [] good q r e = e
-  good-totals (w ∷ ws) good q r e = good-totals ws good q r (through-length (len w) _ q r (through-kind (kind w) _ q r e))
+  good-totals (w ∷ ws) good q r e = good-totals ws good q r (through-kind (kind w) _ q r e)
 
   pub record Used (uses : ℕ) : Type 0 where
     pub reference : uses ≡ refSum (opsIn y l)
@@ -177,7 +165,6 @@ module _ (y : Layout) (l : List ℕ) (place : ℕ) where
       go : (w : Walk) → walkOf (opsIn y l) ≡ w → judged (y .count) (length (opsIn y l)) place w ≡ Ops.Uses uses → Used uses
       go (Totals q r) f g = total q r (good-totals (opsIn y l) _ q r f) (opsIn y l) refl (ltb 0 (y .count)) (ltb 0 (length (opsIn y l))) (eqb q (y .count)) refl refl refl g
       go UnknownCode f g = let z : _≡_ {A = ℕ} 0 1 = cc in absurd (omega arith)
-      go ZeroLength f g = let z : _≡_ {A = ℕ} 0 1 = cc in absurd (omega arith)
 
 pub record Covered (pos uses : ℕ) (e : Extent) : Type 0 where
   pub first : e .start .0 ≡ pos + 1

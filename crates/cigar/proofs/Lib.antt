@@ -3,3 +3,4 @@ pub mod SitsLaws
 pub mod CursorLaws
 pub mod JudgeLaws
 pub mod ExactLaws
+pub mod ZeroLaws

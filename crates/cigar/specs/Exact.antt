@@ -1,11 +1,11 @@
--- When refusals 5 to 7 are given, in the document's words.
+-- When refusals 5 and 7 are given, in the document's words.
 use Prim.Native.Nat.{ℕ, _%_, _≤_, _<_}
 use mathlib.Core.Path.{_≡_}
 use mathlib.Core.List.{List, _∷_, _++_}
 use mathlib.Core.Logic.{_↔_, _⊎_}
 use lib.ListN.{length}
-use Rattle.refusal.specs.declared.Refusal.the-variants.{OperationCode, OperationLength, ReadTotal}
-use Rattle.cigar.specs.Operation.{len, readSum, refSum}
+use Rattle.refusal.specs.declared.Refusal.the-variants.{OperationCode, ReadTotal}
+use Rattle.cigar.specs.Operation.{readSum, refSum}
 use Rattle.cigar.specs.declared.Operations.{Operations}
 use Rattle.cigar.specs.declared.Operations.the-variants as Ops
 
@@ -13,32 +13,26 @@ use Rattle.cigar.specs.declared.Operations.the-variants as Ops
 abbrev pub BadCode : ℕ → Type 0
 BadCode op = 8 < op % 16
 
--- 6: operation length 0; the code was looked at before it
-abbrev pub BadLength : ℕ → Type 0
-BadLength op = (op % 16 ≤ 8) × (len op ≡ 0)
-
--- every operation of the list has a code of 0 to 8 and a length above 0
+-- every operation of the list has a code of 0 to 8
 abbrev pub Faultless : List ℕ → Type 0
-Faultless ops = (before : List ℕ) (op : ℕ) (after : List ℕ) → ops ≡ before ++ op ∷ after → (op % 16 ≤ 8) × (0 < len op)
+Faultless ops = (before : List ℕ) (op : ℕ) (after : List ℕ) → ops ≡ before ++ op ∷ after → op % 16 ≤ 8
 
--- front to back: an operation of the list has the fault, and those before it have none
-pub record FirstFault (fault : ℕ → Type 0) (ops : List ℕ) : Type 0 where
+-- front to back: an operation of the list has a bad code, and those before it have none
+pub record FirstFault (ops : List ℕ) : Type 0 where
   pub before : List ℕ
   pub op : ℕ
   pub after : List ℕ
   pub split : ops ≡ before ++ op ∷ after
   pub passed : Faultless before
-  pub faulty : fault op
+  pub faulty : BadCode op
 
 -- 7: bases and operations are there, and the lengths on the read don't total l_seq
 abbrev pub BadTotal : ℕ → List ℕ → Type 0
 BadTotal count ops = (0 < count) × (0 < length ops) × (readSum ops ≡ count → ⊥)
 
--- r answers the operations of a record of `count` bases: each answer is given exactly when its condition holds, and it is one of these four
+-- r answers the operations of a record of `count` bases: each answer is given exactly when its condition holds, and it is one of these three
 pub record GivenExactly (count : ℕ) (ops : List ℕ) (place : ℕ) (r : Operations) : Type 0 where
-  pub code : (r ≡ Ops.Refused (OperationCode place)) ↔ FirstFault BadCode ops
-  pub length : (r ≡ Ops.Refused (OperationLength place)) ↔ FirstFault BadLength ops
+  pub code : (r ≡ Ops.Refused (OperationCode place)) ↔ FirstFault ops
   pub total : (r ≡ Ops.Refused (ReadTotal place)) ↔ (Faultless ops × BadTotal count ops)
   pub uses : (n : ℕ) → (r ≡ Ops.Uses n) ↔ (Faultless ops × (BadTotal count ops → ⊥) × (n ≡ refSum ops))
-  pub decided : (r ≡ Ops.Refused (OperationCode place)) ⊎ ((r ≡ Ops.Refused (OperationLength place))
-      ⊎ ((r ≡ Ops.Refused (ReadTotal place)) ⊎ (r ≡ Ops.Uses (refSum ops))))
+  pub decided : (r ≡ Ops.Refused (OperationCode place)) ⊎ ((r ≡ Ops.Refused (ReadTotal place)) ⊎ (r ≡ Ops.Uses (refSum ops)))

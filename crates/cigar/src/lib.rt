@@ -1,16 +1,16 @@
-// The operations of an alignment: what each uses, the refusals 5 to 8, and a cursor over the bases
-// that sit on the reference.
+// The operations of an alignment: what each uses, the refusals 5, 7 and 8, and a cursor over the bases
+// that sit on the reference. An operation of length 0 uses nothing and places no base.
 use fields::Layout;
 use fields::ReadOffset;
 use fields::RefPos;
 use refusal::Refusal;
 ghost use mathlib.Core.Path.{_≡_};
 ghost use mathlib.Core.Bool.{true, false};
-ghost use Prim.Native.Nat.{_+_, _/_, _≤_, _<_};
+ghost use Prim.Native.Nat.{_+_, _/_, _%_, _≤_, _<_};
 ghost use lib.ListN.{length, take};
 ghost use Rattle.fields.specs.Number.{unsigned};
 ghost use Rattle.fields.specs.Sound.{Lies};
-ghost use Rattle.cigar.specs.Operation.{Both, kind, readLen, refLen, operations};
+ghost use Rattle.cigar.specs.Operation.{Both, kind, len, readLen, refLen, operations};
 ghost use Rattle.cigar.specs.Judge.{walkOf, operationsOf, spanOf};
 ghost use Rattle.cigar.specs.Passing.{cursor, advanced, Stands, Settled};
 
@@ -29,11 +29,10 @@ pub struct Cursor {
     pub left: usize,
 }
 
-// The first faulty operation, or how much of the read and of the reference all of them use.
+// How much of the read and of the reference all operations use, or that one has an unknown code.
 pub enum Walk {
     Totals(usize, usize),
     UnknownCode,
-    ZeroLength,
 }
 
 // A record's operations judged: how much of the reference they use, or the refusal.
@@ -77,6 +76,13 @@ fn uses_both(op: usize) -> bool
     (ON_READ >> (op % 16)) % 2 * ((ON_REFERENCE >> (op % 16)) % 2) == 1
 }
 
+// Whether its code is above 8, so that it is no operation; its length may be any.
+fn unknown(op: usize) -> bool
+    ensures { λ r. ⌜ (r ≡ true → 8 < op % 16) × (r ≡ false → op % 16 ≤ 8) ⌝ }
+{
+    8 < op % 16
+}
+
 // The operation at a byte: its length times 16, and its code.
 fn operation_at(s: &[u8], at: usize) -> usize
     requires { ⌜ at + 4 ≤ length (now s) ⌝ }
@@ -85,7 +91,7 @@ fn operation_at(s: &[u8], at: usize) -> usize
     fields::u32_at(s, at) as usize
 }
 
-// The operations between two bytes, front to back, at each its code before its length.
+// The operations between two bytes, front to back.
 fn walk_operations(s: &[u8], from: usize, end: usize) -> Walk
     requires { ⌜ (from ≤ end) × (end ≤ length (now s)) × (length (now s) ≤ 65536) ⌝ }
     ensures { λ r. ⌜ r ≡ walkOf (operations from end (now (s .entry))) ⌝ }
@@ -95,11 +101,8 @@ fn walk_operations(s: &[u8], from: usize, end: usize) -> Walk
     let mut reference = 0;
     while 4 <= end - at {
         let op = operation_at(s, at);
-        if 8 < op % 16 {
+        if unknown(op) {
             return Walk::UnknownCode;
-        }
-        if op / 16 == 0 {
-            return Walk::ZeroLength;
         }
         read += read_len(op);
         reference += ref_len(op);
@@ -108,7 +111,7 @@ fn walk_operations(s: &[u8], from: usize, end: usize) -> Walk
     Walk::Totals(read, reference)
 }
 
-// Refusals 5 to 7 of a record with this layout.
+// Refusals 5 and 7 of a record with this layout.
 pub fn check_operations(s: &[u8], y: Layout, place: u16) -> Operations
     requires { ⌜ Lies y (length (now s)) × (length (now s) ≤ 65536) ⌝ }
     ensures { λ r. ⌜ r ≡ operationsOf y (now (s .entry)) place ⌝ }
@@ -118,7 +121,6 @@ pub fn check_operations(s: &[u8], y: Layout, place: u16) -> Operations
     let w = walk_operations(s, from, end);
     match w {
         Walk::UnknownCode => Operations::Refused(Refusal::OperationCode(place)),
-        Walk::ZeroLength => Operations::Refused(Refusal::OperationLength(place)),
         Walk::Totals(read, reference) => {
             let count = y.count;
             if count == 0 {
@@ -152,13 +154,24 @@ pub fn check_span(pos: u32, uses: usize, place: u16) -> Span
     })
 }
 
-// The cursor moved by what an operation uses of the read and of the reference.
+// The cursor with the aligned operation behind its run joined to the run.
+fn join(c: Cursor, op: usize) -> Cursor
+    requires { ⌜ (c .at + 4 < 18446744073709551616) × (c .left ≤ 4294967296) × (op < 4294967296) ⌝ }
+    ensures { λ r. ⌜ r ≡ cursor (c .at + 4) (c .offset .0) (c .position .0) (c .left + len op) ⌝ }
+{
+    let mut joined = c;
+    joined.at += 4;
+    joined.left += op / 16;
+    joined
+}
+
+// The cursor with any other operation passed, by what it uses of the read and of the reference.
 fn skip(c: Cursor, op: usize) -> Cursor
-    requires { ⌜ (c .offset .0 ≤ 4294967296) × (c .position .0 ≤ 4294967296) × (op < 4294967296) ⌝ }
-    ensures { λ r. ⌜ r ≡ cursor (c .at) (c .offset .0 + readLen op) (c .position .0 + refLen op) (c .left) ⌝ }
+    requires { ⌜ (c .at + 4 < 18446744073709551616) × (c .offset .0 ≤ 4294967296) × (c .position .0 ≤ 4294967296) × (op < 4294967296) ⌝ }
+    ensures { λ r. ⌜ r ≡ cursor (c .at + 4) (c .offset .0 + readLen op) (c .position .0 + refLen op) (c .left) ⌝ }
 {
     Cursor {
-        at: c.at,
+        at: c.at + 4,
         offset: ReadOffset(c.offset.0 + read_len(op)),
         position: RefPos(c.position.0 + ref_len(op)),
         left: c.left,
@@ -176,17 +189,15 @@ fn settle(s: &[u8], end: usize, c: Cursor) -> Cursor
     }
     let mut cur = c;
     while 4 <= end - cur.at {
-        let at = cur.at;
-        let op = operation_at(s, at);
+        let op = operation_at(s, cur.at);
         if uses_both(op) {
-            cur.left += op / 16;
+            cur = join(cur, op);
         } else {
             if cur.left != 0 {
                 return cur;
             }
             cur = skip(cur, op);
         }
-        cur.at = at + 4;
     }
     cur
 }

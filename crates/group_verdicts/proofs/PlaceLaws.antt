@@ -8,7 +8,7 @@ use native.Mathlib.Omega.{arith}
 use lib.Dec.{eqb, ltb}
 use lib.ListN.{length}
 use Rattle.refusal.specs.declared.Refusal.{Refusal}
-use Rattle.refusal.specs.declared.Refusal.the-variants.{RecordShort, RecordLong, NameAndOperations, BasesAndQualities, OperationCode, OperationLength, ReadTotal, ReferenceEnd}
+use Rattle.refusal.specs.declared.Refusal.the-variants.{RecordShort, RecordLong, NameAndOperations, BasesAndQualities, OperationCode, ReadTotal, ReferenceEnd}
 use Rattle.refusal.specs.declared.Row.{Row}
 use Rattle.refusal.specs.Table.{row, rowOf, numberOf, placeOf}
 use Rattle.fields.specs.declared.Layout.{Layout}
@@ -22,7 +22,7 @@ use Rattle.fields.specs.Position.{positionOf, sameId}
 use Rattle.fields.specs.Check.{checkOf}
 use Rattle.strategy.specs.declared.Strategies.{Strategies}
 use Rattle.cigar.specs.declared.Walk.{Walk}
-use Rattle.cigar.specs.declared.Walk.the-variants.{Totals, UnknownCode, ZeroLength}
+use Rattle.cigar.specs.declared.Walk.the-variants.{Totals, UnknownCode}
 use Rattle.cigar.specs.declared.Operations.{Operations}
 use Rattle.cigar.specs.declared.Operations.the-variants as Ops
 use Rattle.cigar.specs.declared.Extent.{Extent}
@@ -77,18 +77,17 @@ module _ (x y : ℕ) where
       (refuses (ltb (length s) (tagsAt s)) BasesAndQualities 4 (λ p. refl)
       (fine (layoutOf s)))))
 
-  -- 5 to 7
+  -- 5 and 7
   judged-alike : (count n : ℕ) (k : Walk) → Alike Ops.Uses Ops.Refused x y (judged count n x k) (judged count n y k)
   judged-alike count n (Totals read reference) = refuses (ltb 0 count && ltb 0 n && not (eqb read count)) ReadTotal 7 (λ p. refl) (fine reference)
   judged-alike count n UnknownCode = refused OperationCode 5 (λ p. refl)
-  judged-alike count n ZeroLength = refused OperationLength 6 (λ p. refl)
 
   -- 8
   end-alike : (pos n : ℕ) → Alike Spans.Covers Spans.Refused x y (spanOf pos n x) (spanOf pos n y)
   unfolding spanOf
   end-alike pos n = refuses (ltb 2147483646 (pos + n)) ReferenceEnd 8 (λ p. refl) (fine (extent pos n))
 
-  -- 5 to 8
+  -- 5, 7 and 8
   span-alike : (z : Layout) (s : List ℕ) (pos : ℕ) → Alike Spans.Covers Spans.Refused x y (spanIn z s pos x) (spanIn z s pos y)
   unfolding spanIn operationsOf
   span-alike z s pos = go _ _ (judged-alike (z .count) (length (opsIn z s)) (walkOf (opsIn z s)))

@@ -244,6 +244,23 @@ fn placed() {
     meet(2147483647, b"", 0, 9, b"4M", 4);
 }
 
+// Operations of length 0 count nothing and place no base.
+fn zeros() {
+    meet(9, b"1M0M1I1M", 3, 9, b"2M", 2);
+    meet(9, b"2M", 2, 9, b"1M0M1I1M", 3);
+    meet(9, b"1M0M1D1M", 2, 9, b"3M", 3);
+    meet(9, b"1M0M1D1M", 2, 9, b"1D1M", 1);
+    meet(9, b"1M0M1D1M", 2, 9, b"2N1M", 1);
+    meet(9, b"0S2M0D2M", 4, 9, b"2M0I0N2M", 4);
+    meet(9, b"2S0M2S", 4, 9, b"4M", 4);
+    meet(9, b"0M", 0, 9, b"4M", 4);
+    meet(9, b"4M", 4, 9, b"0M", 0);
+    meet(9, b"0M", 4, 9, b"4M", 4);
+    meet(9, b"4M", 4, 9, b"0D", 4);
+    meet(2147483642, b"4M0D0M", 4, 2147483642, b"0N4M", 4);
+    meet(2147483642, b"4M0M1N", 4, 2147483642, b"4M", 4);
+}
+
 // Two statistics with these counts of overlapping positions, as one.
 fn merge(a: u64, b: u64) {
     let first = CorrectionStats {
@@ -271,6 +288,7 @@ fn merge(a: u64, b: u64) {
 fn main() {
     treated();
     placed();
+    zeros();
     bare(0, 0);
     bare(1, 0);
     bare(0, 1);

@@ -286,7 +286,7 @@ fn apart() {
     numbered(b"pos -1", 4, 4294967295);
 }
 
-// Refusals 1 to 8: the counts and the records stay.
+// Refusals 1 to 5, 7 and 8: the counts and the records stay.
 fn refused() {
     either(
         b"31 bytes",
@@ -307,7 +307,7 @@ fn refused() {
     numbered(b"name length 7", 8, 7);
     numbered(b"five bases", 16, 5);
     numbered(b"operation code 9", 32, 0x49);
-    numbered(b"operation of length 0", 32, 0);
+    numbered(b"0M", 32, 0);
     numbered(b"3M", 32, 0x30);
     numbered(b"pos 2147483643", 4, 2147483643);
 }

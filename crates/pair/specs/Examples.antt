@@ -67,3 +67,6 @@ Examples =
     × MeetAt (opS 2 ∷ opM 3 ∷ opD 1 ∷ opM 2 ∷ []) (at 10) (opM 2 ∷ opI 1 ∷ opM 3 ∷ []) (at 12) ((4, 0, 12) ∷ (5, 3, 14) ∷ (6, 4, 15) ∷ [])
     × MeetAt (opM 4 ∷ []) (at 10) (opM 1 ∷ []) (at 13) ((3, 0, 13) ∷ [])
     × MeetAt (opM 4 ∷ []) (at 10) (opM 1 ∷ []) (at 14) []
+    -- a length of 0 places no base
+    × MeetAt (opM 1 ∷ opM 0 ∷ opI 1 ∷ opM 1 ∷ []) (at 10) (opM 2 ∷ []) (at 10) ((0, 0, 10) ∷ (2, 1, 11) ∷ [])
+    × MeetAt (opM 0 ∷ []) (at 10) (opM 1 ∷ []) (at 10) []

@@ -13,7 +13,7 @@ use Rattle.fields.specs.Layout.{layoutOf}
 use Rattle.fields.specs.Sound.{Lies}
 use Rattle.refusal.specs.declared.Refusal.the-variants.{ReadTotal, ReferenceEnd}
 use Rattle.cigar.specs.declared.Walk.{Walk}
-use Rattle.cigar.specs.declared.Walk.the-variants.{Totals, UnknownCode, ZeroLength}
+use Rattle.cigar.specs.declared.Walk.the-variants.{Totals, UnknownCode}
 use Rattle.cigar.specs.declared.Operations.{Operations}
 use Rattle.cigar.specs.declared.Operations.the-variants as Ops
 use Rattle.cigar.specs.declared.Extent.{Extent}
@@ -45,7 +45,6 @@ uses-any count n i j (Totals read reference) m e = go (ltb 0 count && ltb 0 n &&
     go true f = let z : _≡_ {A = ℕ} 0 1 = cc in absurd (omega arith)
     go false f = f
 uses-any count n i j UnknownCode m e = let z : _≡_ {A = ℕ} 0 1 = cc in absurd (omega arith)
-uses-any count n i j ZeroLength m e = let z : _≡_ {A = ℕ} 0 1 = cc in absurd (omega arith)
 
 end-any : (pos n i j : ℕ) (x : Extent) → spanOf pos n i ≡ Spans.Covers x → spanOf pos n j ≡ Spans.Covers x
 unfolding spanOf

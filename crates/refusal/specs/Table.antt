@@ -1,8 +1,8 @@
--- The paper's number and place of each refusal.
+-- The paper's number and place of each refusal. 6, an operation of length 0, is withdrawn; its number is not used again.
 use Prim.Native.Nat.{ℕ, _+_, _*_}
 use Rattle.refusal.specs.declared.Refusal.{Refusal}
 use Rattle.refusal.specs.declared.Row.{Row}
-use Rattle.refusal.specs.declared.Refusal.the-variants.{RecordShort, RecordLong, NameAndOperations, BasesAndQualities, OperationCode, OperationLength, ReadTotal, ReferenceEnd, Count, Strategy, Frame, TooManyRecords, Sum, Input, CountsSlice, OutputShort, TrailerMissing, TrailerField}
+use Rattle.refusal.specs.declared.Refusal.the-variants.{RecordShort, RecordLong, NameAndOperations, BasesAndQualities, OperationCode, ReadTotal, ReferenceEnd, Count, Strategy, Frame, TooManyRecords, Sum, Input, CountsSlice, OutputShort, TrailerMissing, TrailerField}
 
 abbrev pub row : ℕ → ℕ → Row
 row n p = record { number = n; at = p }
@@ -13,7 +13,6 @@ rowOf (RecordLong p) = row 2 p
 rowOf (NameAndOperations p) = row 3 p
 rowOf (BasesAndQualities p) = row 4 p
 rowOf (OperationCode p) = row 5 p
-rowOf (OperationLength p) = row 6 p
 rowOf (ReadTotal p) = row 7 p
 rowOf (ReferenceEnd p) = row 8 p
 rowOf Count = row 9 0

@@ -1,4 +1,5 @@
-// Why a call is refused, and where: the table of refusals, numbered as in the paper.
+// Why a call is refused, and where: the table of refusals, numbered as in the paper. Number 6 is
+// withdrawn, and none has it.
 ghost use mathlib.Core.Path.{_≡_};
 ghost use Rattle.refusal.specs.Table.{rowOf, numberOf, placeOf, codeOf};
 
@@ -10,7 +11,6 @@ pub enum Refusal {
     NameAndOperations(u16),
     BasesAndQualities(u16),
     OperationCode(u16),
-    OperationLength(u16),
     ReadTotal(u16),
     ReferenceEnd(u16),
     Count,
@@ -43,7 +43,6 @@ impl Refusal {
             Refusal::NameAndOperations(p) => Row { number: 3, at: p },
             Refusal::BasesAndQualities(p) => Row { number: 4, at: p },
             Refusal::OperationCode(p) => Row { number: 5, at: p },
-            Refusal::OperationLength(p) => Row { number: 6, at: p },
             Refusal::ReadTotal(p) => Row { number: 7, at: p },
             Refusal::ReferenceEnd(p) => Row { number: 8, at: p },
             Refusal::Count => Row { number: 9, at: 0 },

@@ -12,9 +12,6 @@ walk-operations-requires c κs = search needs
 enum-told : tie.Need-enum-told
 enum-told c = search needs
 
-enum-told-2 : tie.Need-enum-told-2
-enum-told-2 c = search needs
-
 enum-known-w : tie.Need-enum-known-w
 enum-known-w c = search needs
 
@@ -59,14 +56,6 @@ returns-4 c =
 
 returns-5 : tie.Need-returns-5
 returns-5 c =
-    let by-walk-operations = c .before .before in
-    let entry = by-walk-operations .before .before in
-    let args = entry .args in
-    judged-as (args .y) (now (args .s)) (args .place) (by-walk-operations .walk-operations .result) _
-    (by-walk-operations .walk-operations .ensures) (c .enum-told2 .given .1)
-
-returns-6 : tie.Need-returns-6
-returns-6 c =
     let by-if1 = c .before .before in
     let by-w = by-if1 .before .before in
     let by-walk-operations = by-w .before .before in
@@ -82,12 +71,10 @@ check-operations-spec =
     (tie.spec
     walk-operations-requires
     enum-told
-    enum-told-2
     enum-known-w
     returns
     sub-if2
     returns-2
     returns-3
     returns-4
-    returns-5
-    returns-6)
+    returns-5)

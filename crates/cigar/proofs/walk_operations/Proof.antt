@@ -2,7 +2,7 @@
 -- of them give, and each sum is at most 2^28 for each byte before `at`. The measure is the bytes left. Assumes nothing.
 use Prim.Native.Nat.{_-_}
 use denote.Ref.{now}
-use Rattle.cigar.proofs.JudgeLaws.{Walking, walking-start, walking-end, walking-code, walking-zero, walking-turn}
+use Rattle.cigar.proofs.JudgeLaws.{Walking, walking-start, walking-end, walking-code, walking-turn}
 use borrow.Author.Needs.{needs}
 use native.Mathlib.Omega.{arith}
 use Rattle.cigar.proofs.walk_operations.Statement.{statement}
@@ -23,25 +23,19 @@ sub-loop c = omega (arith, c .loop .inv .low)
 operation-at-requires : tie.Need-operation-at-requires Inv-loop μ-loop
 operation-at-requires c κs = omega arith
 
+unknown-requires : tie.Need-unknown-requires Inv-loop μ-loop
+unknown-requires c κs = search needs
+
 returns : tie.Need-returns Inv-loop μ-loop
 returns c =
-    let turn = c .before .before .before in
-    let entry = turn .before .before in
-    let args = entry .args in
-    let loop = turn .loop in
-    walking-code (now (args .s)) (args .from) (args .end) (entry .pre .1) (loop .at) (loop .read) (loop .reference) (loop .inv)
-    (c .before .operation-at .result) (omega arith) (c .before .operation-at .ensures .0) (c .if1 .taken)
-
-returns-2 : tie.Need-returns-2 Inv-loop μ-loop
-returns-2 c =
     let by-operation-at = c .before .before in
     let turn = by-operation-at .before .before in
     let entry = turn .before .before in
     let args = entry .args in
     let loop = turn .loop in
-    walking-zero (now (args .s)) (args .from) (args .end) (entry .pre .1) (loop .at) (loop .read) (loop .reference) (loop .inv)
-    (by-operation-at .operation-at .result) (omega arith) (by-operation-at .operation-at .ensures .0) (c .before .if1 .left)
-    (c .if2 .taken)
+    walking-code (now (args .s)) (args .from) (args .end) (entry .pre .1) (loop .at) (loop .read) (loop .reference) (loop .inv)
+    (by-operation-at .operation-at .result) (omega arith) (by-operation-at .operation-at .ensures .0)
+    (c .before .unknown .ensures .0 (c .if1 .taken))
 
 read-len-requires : tie.Need-read-len-requires Inv-loop μ-loop
 read-len-requires c κs = search needs
@@ -67,20 +61,19 @@ loop-less c = omega arith
 
 loop-again : tie.Need-loop-again Inv-loop μ-loop
 loop-again c =
-    let by-if2 = c .before .before in
-    let by-if1 = by-if2 .before in
-    let by-operation-at = by-if1 .before in
+    let by-if1 = c .before .before in
+    let by-operation-at = by-if1 .before .before in
     let turn = by-operation-at .before .before in
     let entry = turn .before .before in
     let args = entry .args in
     let loop = turn .loop in
     walking-turn (now (args .s)) (args .from) (args .end) (entry .pre .1) (loop .at) (loop .read) (loop .reference) (loop .inv)
     (by-operation-at .operation-at .result) (omega arith) (by-operation-at .operation-at .ensures .0) (c .before .read-len .result)
-    (c .ref-len .result) (by-operation-at .operation-at .ensures .1) (by-if1 .if1 .left) (by-if2 .if2 .left)
+    (c .ref-len .result) (by-operation-at .operation-at .ensures .1) (by-if1 .before .unknown .ensures .1 (by-if1 .if1 .left))
     (c .before .read-len .ensures) (c .ref-len .ensures)
 
-returns-3 : tie.Need-returns-3 Inv-loop μ-loop
-returns-3 c =
+returns-2 : tie.Need-returns-2 Inv-loop μ-loop
+returns-2 c =
     let turn = c .before in
     let entry = turn .before .before in
     let args = entry .args in
@@ -96,8 +89,8 @@ walk-operations-spec =
     loop-holds
     sub-loop
     operation-at-requires
+    unknown-requires
     returns
-    returns-2
     read-len-requires
     add-read
     ref-len-requires
@@ -105,4 +98,4 @@ walk-operations-spec =
     add-at
     loop-less
     loop-again
-    returns-3)
+    returns-2)

@@ -24,17 +24,14 @@ enum-known-self-6 c = search needs
 enum-known-self-7 : tie.Need-enum-known-self-7
 enum-known-self-7 c = search needs
 
-enum-known-self-8 : tie.Need-enum-known-self-8
-enum-known-self-8 c = search needs
-
 enum-told : tie.Need-enum-told
 enum-told c = search needs
 
 enum-told-2 : tie.Need-enum-told-2
 enum-told-2 c = search needs
 
-enum-known-self-9 : tie.Need-enum-known-self-9
-enum-known-self-9 c = search needs
+enum-known-self-8 : tie.Need-enum-known-self-8
+enum-known-self-8 c = search needs
 
 enum-told-3 : tie.Need-enum-told-3
 enum-told-3 c = search needs
@@ -79,37 +76,34 @@ returns-7 : tie.Need-returns-7
 returns-7 c = rw (c .before .self7 .given .1)
 
 returns-8 : tie.Need-returns-8
-returns-8 c = rw (c .before .self8 .given .1)
+returns-8 c = rw (c .enum-told .given .1)
 
 returns-9 : tie.Need-returns-9
-returns-9 c = rw (c .enum-told .given .1)
+returns-9 c = rw (c .enum-told2 .given .1)
 
 returns-10 : tie.Need-returns-10
-returns-10 c = rw (c .enum-told2 .given .1)
+returns-10 c = rw (c .before .self8 .given .1)
 
 returns-11 : tie.Need-returns-11
-returns-11 c = rw (c .before .self9 .given .1)
+returns-11 c = rw (c .enum-told3 .given .1)
 
 returns-12 : tie.Need-returns-12
-returns-12 c = rw (c .enum-told3 .given .1)
+returns-12 c = rw (c .enum-told4 .given .1)
 
 returns-13 : tie.Need-returns-13
-returns-13 c = rw (c .enum-told4 .given .1)
+returns-13 c = rw (c .enum-told5 .given .1)
 
 returns-14 : tie.Need-returns-14
-returns-14 c = rw (c .enum-told5 .given .1)
+returns-14 c = rw (c .enum-told6 .given .1)
 
 returns-15 : tie.Need-returns-15
-returns-15 c = rw (c .enum-told6 .given .1)
+returns-15 c = rw (c .enum-told7 .given .1)
 
 returns-16 : tie.Need-returns-16
-returns-16 c = rw (c .enum-told7 .given .1)
+returns-16 c = rw (c .enum-told8 .given .1)
 
 returns-17 : tie.Need-returns-17
-returns-17 c = rw (c .enum-told8 .given .1)
-
-returns-18 : tie.Need-returns-18
-returns-18 c = rw (c .enum-told9 .given .1)
+returns-17 c = rw (c .enum-told9 .given .1)
 
 pub row-spec : {M : Type 1} → statement M
 row-spec =
@@ -122,10 +116,9 @@ row-spec =
     enum-known-self-5
     enum-known-self-6
     enum-known-self-7
-    enum-known-self-8
     enum-told
     enum-told-2
-    enum-known-self-9
+    enum-known-self-8
     enum-told-3
     enum-told-4
     enum-told-5
@@ -149,5 +142,4 @@ row-spec =
     returns-14
     returns-15
     returns-16
-    returns-17
-    returns-18)
+    returns-17)
