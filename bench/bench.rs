@@ -134,6 +134,7 @@ fn pairs_of(name: &str) -> Pairs {
         "W3" => w::w3(500, SEED, 20, 60),
         "W4" => w::w4(8, SEED, 40_000, 5_000),
         "W5" => w::w5(1000, SEED),
+        _ if name.starts_with("ZEROS") => w::zeros(4, SEED, name[5..].parse().unwrap()),
         _ => match (name.strip_prefix("OPS"), name.strip_prefix('L')) {
             (Some(n), _) => w::w3(100, SEED, n.parse().unwrap(), n.parse().unwrap()),
             (_, Some(n)) => {

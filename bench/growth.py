@@ -8,6 +8,7 @@ import count
 out, program, table, picture = sys.argv[1:]
 LENGTHS = (25, 50, 100, 150, 300, 1000, 3000, 10000, 40000)
 OPERATIONS = (1, 3, 9, 21, 41, 61, 81, 101)
+ZEROS = (16, 64, 256, 1000, 4000, 16000)
 RECORDS = (2, 4, 8, 16, 32, 64, 128, 256)
 
 
@@ -25,6 +26,7 @@ if os.access(program, os.X_OK):
 PANELS = [
     ("a pair, plain, wholly overlapping", "l_seq", True, pairs("L", LENGTHS)),
     ("a pair of 300 bases", "operations a read", False, pairs("OPS", OPERATIONS)),
+    ("a pair of 100 bases", "operations of length 0 a read", True, pairs("ZEROS", ZEROS)),
     ("a group", "records", True, groups),
 ]
 
@@ -55,7 +57,7 @@ for title, against, _, sides in PANELS:
         print(f"| {title}: {against} {points[0][0]:,} to {points[-1][0]:,} | {who} "
               f"| {a:,.0f} {sign} {abs(b):,.1f} n | {100 * worst:.1f}% at {where:,} |")
 
-# The picture: three panels, each WIDE by HIGH inside its axes.
+# The picture: a panel for each, each WIDE by HIGH inside its axes.
 WIDE, HIGH, LEFT, TOP, STEP = 250, 230, 70, 50, 350
 STYLE = {"rust": ("#b5451b", "the Rust"), "ours": ("#0b5f8a", "ours")}
 svg = []
@@ -111,8 +113,8 @@ for i, (title, against, powers, sides) in enumerate(PANELS):
         svg.extend(f'<circle cx="{x:.1f}" cy="{y:.1f}" r="3" fill="{color}"/>' for x, y in at)
         text(at[-1][0], at[-1][1] + (20 if side == "ours" else -10), name, "end", f' fill="{color}"')
 text(16, TOP + HIGH / 2, "instructions", more=f' transform="rotate(-90 16 {TOP + HIGH / 2})"')
-width, height = LEFT + 2 * STEP + WIDE + 20, TOP + HIGH + 50
+width, height = LEFT + (len(PANELS) - 1) * STEP + WIDE + 20, TOP + HIGH + 50
 with open(picture, "w") as f:
     f.write(f'<svg xmlns="http://www.w3.org/2000/svg" viewBox="0 0 {width} {height}" width="{width}" height="{height}" '
-            'font-family="sans-serif" font-size="12">\n<title>Instructions against l_seq, operations and records</title>\n'
+            'font-family="sans-serif" font-size="12">\n<title>Instructions against l_seq, operations, operations of length 0 and records</title>\n'
             f'<rect width="{width}" height="{height}" fill="white"/>\n' + "\n".join(svg) + "\n</svg>\n")

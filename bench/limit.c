@@ -49,7 +49,7 @@ INLINE uint32_t open_rec(uint8_t *b, size_t len, Rec *r) {
     return 0;
 }
 
-/* 5 to 8; *refend = pos + reference length */
+/* 5, 7 and 8; *refend = pos + reference length */
 #define OPTYPE 0x3C1A7u
 INLINE uint32_t check_ops(const Rec *r, int64_t *refend) {
     uint64_t rd = 0, rf = 0;
@@ -57,7 +57,6 @@ INLINE uint32_t check_ops(const Rec *r, int64_t *refend) {
     for (; p < e; p += 4) {
         uint32_t op = rd32(p), c = op & 15, l = op >> 4, t = OPTYPE >> (2 * c);
         if (UNLIKELY(c > 8)) return 5;
-        if (UNLIKELY(l == 0)) return 6;
         rd += l & -(t & 1);
         rf += l & -(t >> 1 & 1);
     }
@@ -207,7 +206,7 @@ INLINE void span_block(Rec *a, Rec *b, uint32_t ia, uint32_t ib, uint32_t n, uin
 
 /* ---- walking the runs ---- */
 typedef struct { const uint8_t *p, *e; int64_t from, to; uint32_t off; int64_t ref; uint32_t read; } Runs;
-/* next aligned run; adjacent M = X are one run; 0 at the end */
+/* next aligned run, which lengths of 0 may leave empty; adjacent M = X are one run; 0 at the end */
 INLINE int next_run(Runs *w) {
     while (w->p < w->e) {
         uint32_t op = rd32(w->p), l = op >> 4, t = OPTYPE >> (2 * (op & 15)) & 3;

@@ -297,6 +297,17 @@ pub fn plain(n: usize, seed: u64, len: u32) -> Pairs {
     (0..n).map(|_| fragment(&mut r, &rf, &USUAL, len, len as i64, true)).collect()
 }
 
+/// Plain pairs of 100 bases with so many operations of length 0 in front of each read: growth with these.
+pub fn zeros(n: usize, seed: u64, count: u32) -> Pairs {
+    let put = |mut x: Read| {
+        let zeros = (0..count).map(|k| ([M, D, I, S, EQ][k as usize % 5], 0));
+        x.ops = zeros.chain(x.ops).collect();
+        x.tags.clear();
+        x
+    };
+    plain(n, seed, 100).into_iter().map(|(a, b)| (put(a), put(b))).collect()
+}
+
 /// A group: `n` records (mates shuffled, about 1 in 32 secondary or supplementary for n >= 64).
 /// 2x100 with short tags so that 256 records stay below 65,536 bytes with their frames.
 pub fn group(n: usize, r: &mut Rng, rf: &[u8]) -> Vec<Vec<u8>> {
