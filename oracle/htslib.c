@@ -8,6 +8,10 @@
  * has it, is worked out and held against the bytes after the call, its answer and its counts. A second set has wrong
  * operation lengths and positions near the end: refusal 7 must come exactly where htslib calls
  * the lengths different, refusal 8 exactly where its end of the read is above 2,147,483,646.
+ *
+ * Half of the records have operations of length 0. Lengths and ends come from the whole record. The pileup has faults
+ * of its own with them, so for the places it is given the record without them; on how many it places a base elsewhere
+ * when given the whole record is told (docs/DIFFERENCES.md).
  */
 #include "overlap.h"
 #include <htslib/sam.h>
@@ -17,7 +21,7 @@
 #include "../tests/c/model.h"
 #include "../tests/c/seeded.h"
 
-enum { ROOM = 4096, SPAN = 4096, LAST = 2147483646 };
+enum { ROOM = 4096, SPAN = 4096, MOST_OPERATIONS = 64, LAST = 2147483646 };
 typedef struct { uint8_t at[ROOM]; size_t len; } Rec;
 typedef struct { Rec rec[2], after[2]; uint32_t ways[2], answer; uint64_t grown[4]; } Pair;
 
@@ -51,10 +55,24 @@ static unsigned operations(uint32_t *ops) {
     return n;
 }
 
+/* The same with operations of length 0 put before some of them, and behind the last, one to three in a row. */
+static unsigned with_zeros(uint32_t *to, const uint32_t *ops, unsigned n) {
+    unsigned m = 0;
+    for (unsigned i = 0; i <= n; i++) {
+        uint64_t zeros = below(3) == 0 ? 1 + below(3) : 0;
+        while (zeros--) to[m++] = (uint32_t)below(9);
+        if (i < n) to[m++] = ops[i];
+    }
+    return m;
+}
+
 /* A record as BAM has it; with damage, lengths that may not fit and positions near the end. */
 static void make(Rec *r, int second, int damage) {
-    uint32_t ops[16];
-    unsigned n = operations(ops), bases = (unsigned)bam_cigar2qlen((int)n, ops);
+    uint32_t plain[16], ops[MOST_OPERATIONS];
+    unsigned n = operations(plain);
+    if (below(2)) n = with_zeros(ops, plain, n);
+    else memcpy(ops, plain, n * sizeof *ops);
+    unsigned bases = (unsigned)bam_cigar2qlen((int)n, ops);
     int64_t pos = 20 + (int64_t)below(12);
     if (damage && below(3) == 0) ops[below(n)] += below(2) ? 16 : 32;
     if (damage && below(2) == 0) pos = LAST - bam_cigar2rlen((int)n, ops) - 2 + (int64_t)below(5);
@@ -96,8 +114,8 @@ static int feed(void *data, bam1_t *to) { /* one read, then the end */
     *from = NULL;
     return 0;
 }
-/* base index + 1 at each reference position, 0 where the read has no base */
-static void sits(bam1_t *b, uint32_t *at) {
+/* base index + 1 at each reference position, 0 where the read has no base, as the pileup of this record has it */
+static void piled(bam1_t *b, uint32_t *at) {
     int tid, n;
     hts_pos_t pos;
     const bam_pileup1_t *p;
@@ -106,6 +124,56 @@ static void sits(bam1_t *b, uint32_t *at) {
     while ((p = bam_plp64_auto(plp, &tid, &pos, &n)))
         if (n == 1 && !p->is_del && !p->is_refskip && pos < SPAN) at[pos] = (uint32_t)p->qpos + 1;
     bam_plp_destroy(plp);
+}
+
+/* Takes the operations of length 0 out of a record; says how many. */
+static unsigned drop_zeros(bam1_t *b) {
+    uint32_t *ops = bam_get_cigar(b), kept = 0, n = b->core.n_cigar;
+    uint8_t *behind = (uint8_t *)(ops + n);
+    for (uint32_t i = 0; i < n; i++)
+        if (bam_cigar_oplen(ops[i])) ops[kept++] = ops[i];
+    memmove(ops + kept, behind, (size_t)(b->data + b->l_data - behind));
+    b->core.n_cigar = kept;
+    b->l_data -= (int)(4 * (n - kept));
+    return n - kept;
+}
+
+/* How many records had operations of length 0, and on how many of these the pileup differs when given them. */
+static long zeroed, elsewhere;
+
+/* base index + 1 at each reference position, from the record without its operations of length 0 */
+static void sits(bam1_t *b, uint32_t *at) {
+    static uint32_t whole[SPAN];
+    bam1_t *without = bam_dup1(b);
+    if (!without) fail(0, "no memory");
+    unsigned dropped = drop_zeros(without);
+    piled(without, at);
+    bam_destroy1(without);
+    if (!dropped) return;
+    piled(b, whole);
+    zeroed++;
+    elsewhere += memcmp(whole, at, sizeof whole) != 0;
+}
+
+/* What the pileup says of four bases with these operations: at each position the base's index, or - */
+static void show_pileup(const char *spelled, const uint32_t *ops, size_t n) {
+    static uint32_t at[SPAN];
+    bam1_t *b = bam_init1();
+    if (!b || bam_set1(b, 1, "p", 0, 0, 0, 60, n, ops, -1, -1, 0, 4, "ACGT", "IIII", 0) < 0) fail(0, "no memory");
+    piled(b, at);
+    printf("the pileup of %s:", spelled);
+    for (int pos = 0; pos < 5; pos++)
+        if (at[pos]) printf(" %u", at[pos] - 1);
+        else printf(" -");
+    printf("\n");
+    bam_destroy1(b);
+}
+static void show_pileups(void) {
+    enum { ONE = 1 << 4, TWO = 2 << 4 };
+    show_pileup("2M2M", (uint32_t[]){ TWO, TWO }, 2);
+    show_pileup("2M0D2M", (uint32_t[]){ TWO, BAM_CDEL, TWO }, 3);
+    show_pileup("2M1I1M", (uint32_t[]){ TWO, ONE | BAM_CINS, ONE }, 3);
+    show_pileup("2M0M1I1M", (uint32_t[]){ TWO, 0, ONE | BAM_CINS, ONE }, 4);
 }
 
 /* ---- the paper's rule, worked out on what htslib read ---- */
@@ -188,6 +256,7 @@ static void well_formed(long n) {
         tally[answer]++;
     }
     printf("%ld pairs agree in every byte, answer and count: overlap %ld, no overlap %ld\n", n, tally[1], tally[0]);
+    printf("%ld of their records have operations of length 0; given these, the pileup places a base elsewhere in %ld\n", zeroed, elsewhere);
     close_reader(before), close_reader(after);
     free(pairs);
 }
@@ -226,6 +295,7 @@ int main(int argc, char **argv) {
     if (seq_nt16_table['N'] != NO_CALL) fail(0, "htslib has another code for N");
     hts_set_log_level(HTS_LOG_OFF); /* it would speak of each differing length, which are wanted here */
     printf("htslib %s, seed %s\n", hts_version(), argv[1]);
+    show_pileups();
     well_formed(strtol(argv[2], NULL, 10));
     at_the_limits(strtol(argv[2], NULL, 10));
     return 0;
