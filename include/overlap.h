@@ -154,8 +154,8 @@ uint32_t overlap_call(uint8_t *first, size_t first_len,
  *          growth is what this call added to the counts. The records may be used.
  *   1      already done: filed was corrected before. Nothing is written; its trailer has the growth.
  *   other  refused: 1000 + 100 * place + number. The place is the index of the record at fault, from 0
- *          on, and 0 where no record is; 9, 15, 19, 20 and 21 name none. The numbers 1 to 5, 7 to 9 and 15 are
- *          those of overlap_call; and
+ *          on, and 0 where no record is; 9, 15, 19, 20 and 21 name none. The numbers 1 to 5, 7 to 9
+ *          and 15 are those of overlap_call; and
  *
  *          number  when
  *          11      the size of a record is cut off, or reaches past the end of filed

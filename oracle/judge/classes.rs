@@ -62,7 +62,7 @@ fn stepping() -> Vec<Known> {
         at(0, &ops, zeros as u8 + 1)
     };
     vec![
-        known("3a. an inserted base at a deleted position", inserted(0), at(0, &[(M, 2)], 2), 1, OtherBytes, OtherBytes),
+        known("3a. an inserted base at a deleted place", inserted(0), at(0, &[(M, 2)], 2), 1, OtherBytes, OtherBytes),
         known(
             "3b. an inserted base for the aligned one",
             at(0, &[(M, 1), (M, 0), (I, 1), (M, 1)], 3),

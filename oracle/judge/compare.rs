@@ -35,7 +35,8 @@ fn steps_on_zero(r: &[u8]) -> bool {
         let some = |side: fn((bool, bool)) -> bool| rest[from..].iter().any(|o| o.1 > 0 && side(uses(o.0 as u32)));
         some(|u| u.0) && some(|u| u.1)
     };
-    let stepped = |k: usize| aligned(&ops[k]) && ops[k].1 == 0 && ops[..k].iter().any(aligned) && rest_uses_both(&ops[k + 1..]);
+    let empty = |k: usize| aligned(&ops[k]) && ops[k].1 == 0;
+    let stepped = |k: usize| empty(k) && ops[..k].iter().any(aligned) && rest_uses_both(&ops[k + 1..]);
     model::l_seq(r) > 0 && (0..ops.len()).any(stepped)
 }
 

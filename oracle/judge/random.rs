@@ -245,8 +245,8 @@ fn extreme_read(r: &mut Rng) -> Read {
                 read.ops.extend((0..zeros).map(|_| (M, 0)));
             }
             if r.one_in(2) {
+                let used = read.reference_length();
                 let last = read.ops.split_off(r.below(read.ops.len() as u64 + 1) as usize);
-                let used = read.reference_length() + last.iter().filter(|o| uses(o.0).1).map(|o| u64::from(o.1)).sum::<u64>();
                 let gap = LAST as u64 - used - r.below(4);
                 fill(r, &mut read, &[D, N], gap);
                 read.ops.extend(last);

@@ -34,7 +34,8 @@ fn read(ops: &[Op], second: bool, r: &mut Rng) -> Read {
     read
 }
 
-/// The two reads at every distance, the first at its pos or, for None, so that the later end is the last that there is.
+/// The two reads at every distance: the first at this pos, or so that the later end is the last that
+/// there is.
 fn at_every_distance(mut a: Read, mut b: Read, pos: Option<i32>, tally: &mut Tally) {
     let (long_a, long_b) = (a.reference_length() as i32, b.reference_length() as i32);
     for by in -long_b..=long_a {
@@ -45,7 +46,8 @@ fn at_every_distance(mut a: Read, mut b: Read, pos: Option<i32>, tally: &mut Tal
     }
 }
 
-/// All pairs of a first list of at most `first` of these operations and a second of at most `second`, at each of these places.
+/// All pairs of a first list of at most `first` of these operations and a second of at most `second`,
+/// at each of these places.
 fn pairs(first: u32, second: u32, ops: &[Op], places: &[Option<i32>], seed: u64) -> Tally {
     let mut tally = Tally::default();
     let mut r = Rng::new(seed);
@@ -71,6 +73,6 @@ pub fn run(first: u32, second: u32, longest: u32, seed: u64) {
 /// One operation of each kind with the lengths 0, 1 and 2, also at the end of the reference.
 pub fn zeros(first: u32, second: u32, seed: u64) -> Tally {
     let tally = pairs(first, second, &operations(&[M, I, D], 0..=2), &[Some(20), None], seed);
-    tally.print(&format!("all lists of up to {first} and {second} of M, I, D of lengths 0 to 2, every distance, two places"));
+    tally.print(&format!("all lists of up to {first} and {second} of M, I and D of lengths 0 to 2, every distance"));
     tally
 }

@@ -101,7 +101,7 @@ le-take (suc w) l e at h =
 pub kept-stands : (cig : List ℕ) (c d : Cursor) → Stands cig c → SameBases cig c d → d .at ≤ length cig → Stands cig d
 kept-stands cig c d s k h = record { within = h; reads = omega (arith, s .reads, k .reads); refs = omega (arith, s .refs, k .refs) }
 
--- a turn of `settle`, at the operation that stands where `cur` is, in the record's bytes `s` up to `end`
+-- what a turn of `settle` keeps: `cur` is at most at `end`, and stands for the same bases as `c`
 abbrev pub Turned : List ℕ → ℕ → Cursor → Cursor → Type 0
 Turned s end c cur = (cur .at ≤ end) × SameBases (take end s) c cur
 
