@@ -52,7 +52,7 @@ run-join m n q r p x =
         (lt-or-le p (r + m + n))
 
 -- an operation leaves a position below it to what follows
-op-below : (k : Kind) (n q r p : ℕ) (x : Option ℕ) → p < r → opAt k n q r p x ≡ x
+pub op-below : (k : Kind) (n q r p : ℕ) (x : Option ℕ) → p < r → opAt k n q r p x ≡ x
 op-below Both n q r p x h = run-below n q r p x h
 op-below Reference n q r p x h = refl
 op-below Read n q r p x h = refl
@@ -123,7 +123,7 @@ both-used Neither e = absurd (omega arith)
 both-used Unknown e = absurd (omega arith)
 
 -- no more than its length
-uses-most : (k : Kind) (n : ℕ) → (readOf k n ≤ n) × (refOf k n ≤ n)
+pub uses-most : (k : Kind) (n : ℕ) → (readOf k n ≤ n) × (refOf k n ≤ n)
 uses-most Both n = (omega arith, omega arith)
 uses-most Reference n = (omega arith, omega arith)
 uses-most Read n = (omega arith, omega arith)

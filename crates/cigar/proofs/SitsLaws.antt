@@ -17,7 +17,7 @@ use Rattle.fields.proofs.Arith.{lt-or-le}
 use Rattle.cigar.proofs.PlaceLaws.{run-below, run-in, run-past}
 
 -- an operation that is passed: positions past it are left to what follows
-op-past : (k : Kind) (n q r p : ℕ) (x : Option ℕ) → r + refOf k n ≤ p → opAt k n q r p x ≡ x
+pub op-past : (k : Kind) (n q r p : ℕ) (x : Option ℕ) → r + refOf k n ≤ p → opAt k n q r p x ≡ x
 op-past Both n q r p x h = run-past n q r p x h
 op-past Reference n q r p x h = refl
 op-past Read n q r p x h = refl
@@ -153,13 +153,13 @@ one-place {count} {ops} {r} {p} {s} {i} a b =
     (λ h. ⊎-elim (λ k. absurd (omega (arith, off-mono ops 0 (r .0) (i .0) (i .0) (s .0) (p .0) (sits-off b) (sits-off a) k))) (λ k. omega arith) (lt-or-le (s .0) (p .0)))
     (lt-or-le (p .0) (s .0))
 
--- a base that sits is one of the read, at a position of the span
-read-append : (l m : List ℕ) → readSum (l ++ m) ≡ readSum l + readSum m
+-- what operations end to end use
+pub read-append : (l m : List ℕ) → readSum (l ++ m) ≡ readSum l + readSum m
 unfolding readSum
 read-append [] m = omega arith
 read-append (w ∷ ws) m = omega (arith, read-append ws m)
 
-ref-append : (l m : List ℕ) → refSum (l ++ m) ≡ refSum l + refSum m
+pub ref-append : (l m : List ℕ) → refSum (l ++ m) ≡ refSum l + refSum m
 unfolding refSum
 ref-append [] m = omega arith
 ref-append (w ∷ ws) m = omega (arith, ref-append ws m)

@@ -1,57 +1,40 @@
 -- An operation of length 0 counts nothing and places no base: an alignment without it has the same sums, and each base sits where it sat.
 use Prim.Native.Nat.{ℕ, _+_}
-use mathlib.Core.Path.{_≡_, refl, sym, ap, ap₂, _∙_}
+use mathlib.Core.Path.{_≡_, sym, ap, ap₂, _∙_}
 use mathlib.Core.List.{List, [], _∷_, _++_}
-use mathlib.Core.Option.{Option}
-use mathlib.Core.Logic.{_↔_}
+use mathlib.Core.Logic.{_↔_, ⊎-elim}
 use native.Mathlib.Omega.{arith}
 use Rattle.fields.specs.declared.RefPos.{RefPos}
 use Rattle.fields.specs.declared.ReadOffset.{ReadOffset}
-use Rattle.cigar.specs.Operation.{Kind, Both, Reference, Read, Neither, Unknown, kind, len, readLen, refLen, readOf, refOf, readSum, refSum}
+use Rattle.fields.proofs.Arith.{lt-or-le}
+use Rattle.cigar.specs.Operation.{kind, len, readLen, refLen, readSum, refSum}
 use Rattle.cigar.specs.Place.{Sits}
 use Rattle.cigar.specs.Found.{opAt, offAt, ofBases}
-use Rattle.cigar.proofs.PlaceLaws.{run-zero}
-use Rattle.cigar.proofs.SitsLaws.{sits-found, found-sits}
-
-kind-none : (k : Kind) → (readOf k 0 ≡ 0) × (refOf k 0 ≡ 0)
-kind-none Both = (refl, refl)
-kind-none Reference = (refl, refl)
-kind-none Read = (refl, refl)
-kind-none Neither = (refl, refl)
-kind-none Unknown = (refl, refl)
-
-kind-places-none : (k : Kind) (q r p : ℕ) (x : Option ℕ) → opAt k 0 q r p x ≡ x
-kind-places-none Both q r p x = run-zero q r p x
-kind-places-none Reference q r p x = refl
-kind-places-none Read q r p x = refl
-kind-places-none Neither q r p x = refl
-kind-places-none Unknown q r p x = refl
+use Rattle.cigar.proofs.PlaceLaws.{op-below, uses-most}
+use Rattle.cigar.proofs.SitsLaws.{op-past, sits-found, found-sits, read-append, ref-append}
 
 module _ (op : ℕ) (none : len op ≡ 0) where
-  pub read-none : readLen op ≡ 0
-  read-none = ap (readOf (kind op)) none ∙ kind-none (kind op) .0
+  read-none : readLen op ≡ 0
+  read-none = omega (arith, uses-most (kind op) (len op) .0)
 
-  pub ref-none : refLen op ≡ 0
-  ref-none = ap (refOf (kind op)) none ∙ kind-none (kind op) .1
+  ref-none : refLen op ≡ 0
+  ref-none = omega (arith, uses-most (kind op) (len op) .1)
 
   -- it counts nothing
   pub read-without : (before after : List ℕ) → readSum (before ++ op ∷ after) ≡ readSum (before ++ after)
   unfolding readSum
-  read-without [] after = omega (arith, read-none)
-  read-without (w ∷ ws) after = ap (λ (n : ℕ). readLen w + n) (read-without ws after)
+  read-without before after = omega (arith, read-append before (op ∷ after), read-append before after, read-none)
 
   pub ref-without : (before after : List ℕ) → refSum (before ++ op ∷ after) ≡ refSum (before ++ after)
   unfolding refSum
-  ref-without [] after = omega (arith, ref-none)
-  ref-without (w ∷ ws) after = ap (λ (n : ℕ). refLen w + n) (ref-without ws after)
+  ref-without before after = omega (arith, ref-append before (op ∷ after), ref-append before after, ref-none)
 
   off-without : (before after : List ℕ) (q r p : ℕ) → offAt (before ++ op ∷ after) q r p ≡ offAt (before ++ after) q r p
   unfolding offAt
   off-without [] after q r p =
       let rest = offAt after (q + readLen op) (r + refLen op) p in
-      ap (λ (n : ℕ). opAt (kind op) n q r p rest) none
-      ∙ (kind-places-none (kind op) q r p rest
-      ∙ ap₂ (λ (x y : ℕ). offAt after x y p) (omega (arith, read-none)) (omega (arith, ref-none)))
+      ⊎-elim (op-below (kind op) (len op) q r p rest) (λ h. op-past (kind op) (len op) q r p rest (omega (arith, ref-none))) (lt-or-le p r)
+      ∙ ap₂ (λ (x y : ℕ). offAt after x y p) (omega (arith, read-none)) (omega (arith, ref-none))
   off-without (w ∷ ws) after q r p = ap (opAt (kind w) (len w) q r p) (off-without ws after (q + readLen w) (r + refLen w) p)
 
   -- and places no base
