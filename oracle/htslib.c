@@ -9,7 +9,7 @@
  * operation lengths and positions near the end: refusal 7 must come exactly where htslib calls
  * the lengths different, refusal 8 exactly where its end of the read is above 2,147,483,646.
  *
- * Half of the records have operations of length 0. Lengths and ends come from the whole record. The pileup has faults
+ * Nearly half of the records have operations of length 0. Lengths and ends come from the whole record. The pileup has faults
  * of its own with them, so for the places it is given the record without them; on how many it places a base elsewhere
  * when given the whole record is told (docs/DIFFERENCES.md).
  */

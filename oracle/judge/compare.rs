@@ -147,20 +147,18 @@ fn modelled(case: &Case) -> (Answer, After) {
 
 /// Accepted input: both builds of the Rust give what was expected, or the case is of a known class.
 fn rust_judges(case: &Case, expected: &After, tally: &mut Tally) -> Result<(), String> {
-    let checked = rust_beside(case, expected, published::checked::pair);
-    let plain = rust_beside(case, expected, published::plain::pair);
-    if checked == Ended::Done(()) && plain == Ended::Done(()) {
+    let (checked, plain) = (ran(case, published::checked::pair), ran(case, published::plain::pair));
+    let words = (word(&checked, expected), word(&plain, expected));
+    if words == ("equal", "equal") {
         tally.equal += 1;
         return Ok(());
     }
-    let words = (word(&checked), word(&plain));
     let class = class(&case.first, &case.second);
-    let panics = |w: &str| w.ends_with("panic");
+    let alike = checked == plain && matches!(plain, Ended::Done(_)); // in every byte and count
     match (class, words) {
         (Some(Class::FirstEndPastI32), ("overflow panic", "equal")) => {}
         (Some(Class::ReadPositionPastI32), ("overflow panic", "equal" | "index panic")) => {}
-        (Some(Class::StepsOnZero), (with, without)) if with == without && !panics(with) => {}
-        (Some(Class::StepsPastI32), (with, without)) if with == without && !panics(with) => {}
+        (Some(Class::StepsOnZero | Class::StepsPastI32), _) if alike => {}
         (Some(Class::StepsPastI32), ("overflow panic", _)) => {}
         _ => return Err(format!("the published Rust differs; with checks {checked:?}, without {plain:?}")),
     }
@@ -169,25 +167,25 @@ fn rust_judges(case: &Case, expected: &After, tally: &mut Tally) -> Result<(), S
     Ok(())
 }
 
-/// How a build of the Rust ends; `Done` only where answer, bytes and growth are the expected ones.
-fn rust_beside(case: &Case, expected: &After, run: PairRun) -> Ended<()> {
+/// How a build of the Rust ends, with answer, bytes and counts as the call has them.
+fn ran(case: &Case, run: PairRun) -> Ended<After> {
     let (mut first, mut second) = (case.first.clone(), case.second.clone());
     match run(&mut first, &mut second, case.agreement, case.disagreement) {
         Ended::Done((overlap, growth)) => {
             let given = unpack(&case.counts);
             let counts = pack(std::array::from_fn(|k| given[k] + growth[k]));
-            let got = After { answer: u32::from(overlap), first, second, counts };
-            if got == *expected { Ended::Done(()) } else { Ended::Failed(otherwise(&got, expected).into()) }
+            Ended::Done(After { answer: u32::from(overlap), first, second, counts })
         }
         Ended::Failed(e) => Ended::Failed(e),
         Ended::Panicked(m) => Ended::Panicked(m),
     }
 }
 
-/// In what the Rust differs from what was expected.
-fn otherwise(got: &After, expected: &After) -> &'static str {
+/// In what the Rust differs from what was expected, if in anything.
+fn beside(got: &After, expected: &After) -> &'static str {
     let bytes = got.first != expected.first || got.second != expected.second;
     match (got.answer, expected.answer) {
+        _ if got == expected => "equal",
         (1, 0) => "overlap where there is none",
         (0, 1) => "no overlap where there is one",
         _ if bytes && got.counts != expected.counts => "other bytes and counts",
@@ -196,10 +194,10 @@ fn otherwise(got: &After, expected: &After) -> &'static str {
     }
 }
 
-fn word(ended: &Ended<()>) -> &str {
+fn word(ended: &Ended<After>, expected: &After) -> &'static str {
     match ended {
-        Ended::Done(()) => "equal",
-        Ended::Failed(how) => how,
+        Ended::Done(got) => beside(got, expected),
+        Ended::Failed(_) => "an error",
         Ended::Panicked(m) if m.contains("overflow") => "overflow panic",
         Ended::Panicked(m) if m.contains("index out of bounds") => "index panic",
         Ended::Panicked(_) => "another panic",

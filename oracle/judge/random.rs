@@ -5,8 +5,8 @@ use crate::rng::Rng;
 /// Qualities at which the rule turns: around 2, half of 93, 93, and the ends.
 pub const TURNING: [u8; 10] = [0, 1, 2, 3, 46, 47, 92, 93, 94, 255];
 
-/// A read whose operations and bases fit each other; all nine operations, all sixteen codes. A third
-/// of the reads have lengths of 0, some of them in a row.
+/// A read whose operations and bases fit each other; all nine operations, all sixteen codes. In a third
+/// of the reads one operation in three has length 0.
 pub fn read(r: &mut Rng) -> Read {
     let mut read = Read { flags: flags(r), name: name(r), spare: r.below(16) as u8, ..Read::default() };
     read.unread = std::array::from_fn(|_| r.next() as u8);
