@@ -31,11 +31,11 @@ NAMES = {'pair': 'overlap_call', 'filed': 'overlap_filed_call', 'trailer': 'over
 
 def given():
     """Every refusal that a call gives: call, number and place, and the words for the place."""
-    faults = [1, 2, 3, 4, 5, 7, 8]   # of a record; 6 is withdrawn
-    for number in faults:
+    of_a_record = [1, 2, 3, 4, 5, 7, 8]   # 6 is withdrawn
+    for number in of_a_record:
         yield 'pair', number, 1, ', first record'
         yield 'pair', number, 2, ', second record'
-    for call, of_record, of_none in ('filed', [*faults, 11], [9, 15, 19, 20, 21]), ('trailer', [*range(1, 5), 11], [10, 19]):
+    for call, of_record, of_none in ('filed', [*of_a_record, 11], [9, 15, 19, 20, 21]), ('trailer', [*range(1, 5), 11], [10, 19]):
         for number in of_record:
             yield from ((call, number, place, f', record with index {place}') for place in range(256))
         yield call, 12, 256, ', record with index 256'
