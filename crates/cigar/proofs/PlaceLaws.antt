@@ -73,28 +73,36 @@ off-below [] q r p h = refl
 off-below (w ∷ ws) q r p h =
     op-below (kind w) (len w) q r p _ h ∙ off-below ws (q + readLen w) (r + refLen w) p (omega arith)
 
--- ---- what an operation uses, by the bits of the code
+-- ---- what an operation uses, by the two bits of its code
+-- 0x3C1A7
+abbrev packed : ℕ
+packed = 246183
+
+abbrev usesOf : ℕ → ℕ
+usesOf c = packed / 2 ^ (c * 2)
+
+-- the bits are what the kind says, and a shift by the code, made twice, is one by twice the code
 Told : ℕ → Type 0
-Told c = (403 / 2 ^ c % 2 ≡ readOf (kindOf c) 1) × (397 / 2 ^ c % 2 ≡ refOf (kindOf c) 1)
+Told c = (usesOf c % 2 ≡ readOf (kindOf c) 1) × (usesOf c / 2 % 2 ≡ refOf (kindOf c) 1) × (packed / 2 ^ c / 2 ^ c ≡ usesOf c)
 
 told : (c : ℕ) → c < 16 → Told c
 unfolding Told
-told zero h = (refl, refl)
-told (suc zero) h = (refl, refl)
-told (suc (suc zero)) h = (refl, refl)
-told (suc (suc (suc zero))) h = (refl, refl)
-told (suc (suc (suc (suc zero)))) h = (refl, refl)
-told (suc (suc (suc (suc (suc zero))))) h = (refl, refl)
-told (suc (suc (suc (suc (suc (suc zero)))))) h = (refl, refl)
-told (suc (suc (suc (suc (suc (suc (suc zero))))))) h = (refl, refl)
-told (suc (suc (suc (suc (suc (suc (suc (suc zero)))))))) h = (refl, refl)
-told (suc (suc (suc (suc (suc (suc (suc (suc (suc zero))))))))) h = (refl, refl)
-told (suc (suc (suc (suc (suc (suc (suc (suc (suc (suc zero)))))))))) h = (refl, refl)
-told (suc (suc (suc (suc (suc (suc (suc (suc (suc (suc (suc zero))))))))))) h = (refl, refl)
-told (suc (suc (suc (suc (suc (suc (suc (suc (suc (suc (suc (suc zero)))))))))))) h = (refl, refl)
-told (suc (suc (suc (suc (suc (suc (suc (suc (suc (suc (suc (suc (suc zero))))))))))))) h = (refl, refl)
-told (suc (suc (suc (suc (suc (suc (suc (suc (suc (suc (suc (suc (suc (suc zero)))))))))))))) h = (refl, refl)
-told (suc (suc (suc (suc (suc (suc (suc (suc (suc (suc (suc (suc (suc (suc (suc zero))))))))))))))) h = (refl, refl)
+told zero h = (refl, refl, refl)
+told (suc zero) h = (refl, refl, refl)
+told (suc (suc zero)) h = (refl, refl, refl)
+told (suc (suc (suc zero))) h = (refl, refl, refl)
+told (suc (suc (suc (suc zero)))) h = (refl, refl, refl)
+told (suc (suc (suc (suc (suc zero))))) h = (refl, refl, refl)
+told (suc (suc (suc (suc (suc (suc zero)))))) h = (refl, refl, refl)
+told (suc (suc (suc (suc (suc (suc (suc zero))))))) h = (refl, refl, refl)
+told (suc (suc (suc (suc (suc (suc (suc (suc zero)))))))) h = (refl, refl, refl)
+told (suc (suc (suc (suc (suc (suc (suc (suc (suc zero))))))))) h = (refl, refl, refl)
+told (suc (suc (suc (suc (suc (suc (suc (suc (suc (suc zero)))))))))) h = (refl, refl, refl)
+told (suc (suc (suc (suc (suc (suc (suc (suc (suc (suc (suc zero))))))))))) h = (refl, refl, refl)
+told (suc (suc (suc (suc (suc (suc (suc (suc (suc (suc (suc (suc zero)))))))))))) h = (refl, refl, refl)
+told (suc (suc (suc (suc (suc (suc (suc (suc (suc (suc (suc (suc (suc zero))))))))))))) h = (refl, refl, refl)
+told (suc (suc (suc (suc (suc (suc (suc (suc (suc (suc (suc (suc (suc (suc zero)))))))))))))) h = (refl, refl, refl)
+told (suc (suc (suc (suc (suc (suc (suc (suc (suc (suc (suc (suc (suc (suc (suc zero))))))))))))))) h = (refl, refl, refl)
 told (suc (suc (suc (suc (suc (suc (suc (suc (suc (suc (suc (suc (suc (suc (suc (suc n)))))))))))))))) h = absurd (omega arith)
 
 read-times : (k : Kind) (n : ℕ) → readOf k 1 * n ≡ readOf k n
@@ -139,25 +147,38 @@ bit-times (suc (suc b)) n h = absurd (omega arith)
 pub bit-fits : (x n : ℕ) → Fits w64 n → Fits w64 (x % 2 * n)
 bit-fits x n h = omega (arith, bit-times (x % 2) n (omega arith), h)
 
+-- a bit takes all of a length or nothing of it
+bit-takes : (b n : ℕ) → b < 2 → (b ≡ 1 → n ≡ b * n) × ((b ≡ 1 → ⊥) → 0 ≡ b * n)
+bit-takes zero n h = (λ t. absurd (omega arith), λ f. omega arith)
+bit-takes (suc zero) n h = (λ t. omega arith, λ f. absurd (f refl))
+bit-takes (suc (suc b)) n h = absurd (omega arith)
+
 module _ (op : ℕ) where
-  code : op % 16 < 16
-  code = omega arith
+  abbrev uses : ℕ
+  uses = packed / 2 ^ (op % 16) / 2 ^ (op % 16)
 
-  pub read-told : (403 / 2 ^ (op % 16) % 2 * (op / 16) ≡ readLen op) × (readLen op ≤ op / 16)
+  bits : Told (op % 16)
+  bits = told (op % 16) (omega arith)
+
+  pub read-told : (uses % 2 ≡ 1 → op / 16 ≡ readLen op) × ((uses % 2 ≡ 1 → ⊥) → 0 ≡ readLen op)
   unfolding Told
-  read-told = (ap (λ (x : ℕ). x * (op / 16)) (told (op % 16) code .0) ∙ read-times (kind op) (len op), uses-most (kind op) (len op) .0)
+  read-told =
+      rw (bits .2, bits .0, sym (read-times (kind op) (len op)))
+      (bit-takes (readOf (kind op) 1) (len op) (omega (arith, uses-most (kind op) 1 .0)))
 
-  pub ref-told : (397 / 2 ^ (op % 16) % 2 * (op / 16) ≡ refLen op) × (refLen op ≤ op / 16)
+  pub ref-told : (uses / 2 % 2 ≡ 1 → op / 16 ≡ refLen op) × ((uses / 2 % 2 ≡ 1 → ⊥) → 0 ≡ refLen op)
   unfolding Told
-  ref-told = (ap (λ (x : ℕ). x * (op / 16)) (told (op % 16) code .1) ∙ ref-times (kind op) (len op), uses-most (kind op) (len op) .1)
+  ref-told =
+      rw (bits .2, bits .1, sym (ref-times (kind op) (len op)))
+      (bit-takes (refOf (kind op) 1) (len op) (omega (arith, uses-most (kind op) 1 .1)))
 
-  abbrev bits : ℕ
-  bits = 403 / 2 ^ (op % 16) % 2 * (397 / 2 ^ (op % 16) % 2)
+  abbrev product : ℕ
+  product = usesOf (op % 16) % 2 * (usesOf (op % 16) / 2 % 2)
 
-  pub both-told : (eqb bits 1 ≡ true → kind op ≡ Both) × (eqb bits 1 ≡ false → kind op ≡ Both → ⊥)
+  pub both-told : (eqb product 1 ≡ true → kind op ≡ Both) × (eqb product 1 ≡ false → kind op ≡ Both → ⊥)
   unfolding Told
   both-told =
-      rw (told (op % 16) code .0, told (op % 16) code .1)
+      rw (bits .0, bits .1)
       (λ e. both-used (kind op) (eqb-true _ 1 e), λ e f. eqb-false _ 1 e (both-uses (kind op) f))
 
 -- ---- the operations of a list of bytes

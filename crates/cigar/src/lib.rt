@@ -14,11 +14,9 @@ ghost use Rattle.cigar.specs.Operation.{Both, kind, len, readLen, refLen
 ghost use Rattle.cigar.specs.Judge.{walkOf, operationsOf, spanOf};
 ghost use Rattle.cigar.specs.Passing.{cursor, advanced, Stands, Settled};
 
-// Which codes use the read, and which the reference: bit c for code c. Codes 0 to 8 are
-// M I D N S H P = X.
-const ON_READ: usize = 403;
-
-const ON_REFERENCE: usize = 397;
+// What the operations use, two bits a code, M I D N S H P = X from code 0 on: shifted by twice the
+// code, bit 0 is for the read and bit 1 for the reference. Codes above 8 use neither.
+const USES: usize = 0x3C1A7;
 
 // A place in an alignment: the next `left` bases, from `offset` on, sit at the positions from
 // `position` on; `at` is the byte at which the operation after them begins.
@@ -58,7 +56,8 @@ fn read_len(op: usize) -> usize
     requires { ⌜ op < 4294967296 ⌝ }
     ensures { λ r. ⌜ (r ≡ readLen op) × (r ≤ op / 16) ⌝ }
 {
-    (ON_READ >> (op % 16)) % 2 * (op / 16)
+    let uses = USES >> (op % 16) >> (op % 16);
+    if uses % 2 == 1 { op / 16 } else { 0 }
 }
 
 // How much of the reference it uses.
@@ -66,14 +65,16 @@ fn ref_len(op: usize) -> usize
     requires { ⌜ op < 4294967296 ⌝ }
     ensures { λ r. ⌜ (r ≡ refLen op) × (r ≤ op / 16) ⌝ }
 {
-    (ON_REFERENCE >> (op % 16)) % 2 * (op / 16)
+    let uses = USES >> (op % 16) >> (op % 16);
+    if uses / 2 % 2 == 1 { op / 16 } else { 0 }
 }
 
 // Whether it uses both, as an aligned operation does.
 fn uses_both(op: usize) -> bool
     ensures { λ r. ⌜ (r ≡ true → kind op ≡ Both) × (r ≡ false → kind op ≡ Both → ⊥) ⌝ }
 {
-    (ON_READ >> (op % 16)) % 2 * ((ON_REFERENCE >> (op % 16)) % 2) == 1
+    let uses = USES >> (op % 16 * 2);
+    uses % 2 * (uses / 2 % 2) == 1
 }
 
 // Whether its code is above 8, so that it is no operation; its length may be any.

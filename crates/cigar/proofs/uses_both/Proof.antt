@@ -5,11 +5,11 @@ use borrow.Author.Needs.{needs}
 use Rattle.cigar.proofs.uses_both.Statement.{statement}
 use Rattle.cigar.proofs.uses_both.Tie as tie
 
-shr-result : tie.Need-shr-result
-shr-result c = search needs
+mul-uses : tie.Need-mul-uses
+mul-uses c = search needs
 
-shr-result-2 : tie.Need-shr-result-2
-shr-result-2 c = search needs
+shr-uses : tie.Need-shr-uses
+shr-uses c = search needs
 
 mul-result : tie.Need-mul-result
 mul-result c = bit-fits _ _ (omega arith)
@@ -18,4 +18,4 @@ returns : tie.Need-returns
 returns c = both-told (c .args .op)
 
 pub uses-both-spec : {M : Type 1} → statement M
-uses-both-spec = tie.close (tie.spec shr-result shr-result-2 mul-result returns)
+uses-both-spec = tie.close (tie.spec mul-uses shr-uses mul-result returns)
