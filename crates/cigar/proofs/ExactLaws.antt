@@ -1,5 +1,5 @@
 -- Refusals 5 and 7 are given exactly when the document says.
-use Prim.Native.Nat.{ℕ, _%_, _≤_, _<_}
+use Prim.Native.Nat.{ℕ, suc, _+_, _%_, _≤_, _<_}
 use mathlib.Core.Path.{_≡_, refl, sym, ap, _∙_}
 use mathlib.Core.List.{List, [], _∷_, _++_, append-nil}
 use mathlib.Core.Bool.{Bool, true, false, _&&_, not}
@@ -27,8 +27,8 @@ bad-unknown op = (λ h. kind-bad (op % 16) h, λ e. ⊎-elim (λ h. h) (λ h. ab
   where
     known : op % 16 ≤ 8 → kind op ≡ Unknown → ⊥
     known h e =
-        let k : onKind (kind op) (Totals 0 0) ≡ Totals 0 0 = known-kind (op % 16) (Totals 0 0) h in
-        let u : UnknownCode ≡ Totals 0 0 = rw e at k in
+        let k : onKind (kind op) 0 (Totals 0 0) ≡ Totals 0 0 = known-kind (op % 16) 0 (Totals 0 0) h in
+        let u : UnknownCode 0 ≡ Totals 0 0 = rw e at k in
         let z : _≡_ {A = ℕ} 0 1 = cc in omega arith
 
 -- ---- every operation, from the first on
@@ -47,57 +47,61 @@ one-less : {w : ℕ} {ws : List ℕ} → Faultless (w ∷ ws) → Faultless ws
 one-less {w} h before op after e = h (w ∷ before) op after (ap (λ (l : List ℕ). w ∷ l) e)
 
 -- the walk passes operations without fault,
-pass-front : (before rest : List ℕ) (good : Walk) → Faultless before → faultOr (before ++ rest) good ≡ faultOr rest good
+pass-front : (before rest : List ℕ) (i : ℕ) (good : Walk) → Faultless before → faultOr (before ++ rest) i good ≡ faultOr rest (i + length before) good
 unfolding faultOr
-pass-front [] rest good h = refl
-pass-front (w ∷ ws) rest good h = known-kind (w % 16) _ (h [] w ws refl) ∙ pass-front ws rest good (one-less h)
+pass-front [] rest i good h = ap (λ (k : ℕ). faultOr rest k good) (omega arith)
+pass-front (w ∷ ws) rest i good h =
+    known-kind (w % 16) i _ (h [] w ws refl)
+    ∙ (pass-front ws rest (suc i) good (one-less h) ∙ ap (λ (k : ℕ). faultOr rest k good) (omega arith))
 
 -- all of them where there is no other,
-pass-all : (ops : List ℕ) (good : Walk) → Faultless ops → faultOr ops good ≡ good
+pass-all : (ops : List ℕ) (good : Walk) → Faultless ops → faultOr ops 0 good ≡ good
 unfolding faultOr
-pass-all ops good h = rw append-nil at (pass-front ops [] good h)
+pass-all ops good h = rw append-nil at (pass-front ops [] 0 good h)
 
 -- and stops at the first that is faulty
-stop-code : (ops : List ℕ) (good : Walk) → FirstFault ops → faultOr ops good ≡ UnknownCode
+stop-code : (ops : List ℕ) (i : ℕ) (good : Walk) → FirstFault ops i → faultOr ops 0 good ≡ UnknownCode i
 unfolding faultOr
-stop-code ops good f =
-    ap (λ (l : List ℕ). faultOr l good) (f .split)
-    ∙ (pass-front (f .before) (f .op ∷ f .after) good (f .passed) ∙ rw (kind-bad (f .op % 16) (f .faulty)))
+stop-code ops i good f =
+    let here : 0 + length (f .before) ≡ i = omega (arith, f .index) in
+    ap (λ (l : List ℕ). faultOr l 0 good) (f .split)
+    ∙ (pass-front (f .before) (f .op ∷ f .after) 0 good (f .passed) ∙ (rw (kind-bad (f .op % 16) (f .faulty)) (ap UnknownCode here)))
 
 -- there is a first faulty operation, or none is
-first-fault : (ops : List ℕ) → FirstFault ops ⊎ Faultless ops
+first-fault : (ops : List ℕ) → ((i : ℕ) × FirstFault ops i) ⊎ Faultless ops
 first-fault [] = inr none-faulty
 first-fault (w ∷ ws) = go (first-fault ws) (lt-or-le 8 (w % 16))
   where
-    here : BadCode w → FirstFault (w ∷ ws)
-    here h = record { before = []; op = w; after = ws; split = refl; passed = none-faulty; faulty = h }
+    here : BadCode w → FirstFault (w ∷ ws) 0
+    here h = record { before = []; op = w; after = ws; split = refl; index = refl; passed = none-faulty; faulty = h }
 
-    later : w % 16 ≤ 8 → FirstFault ws → FirstFault (w ∷ ws)
-    later c f =
+    later : (i : ℕ) → w % 16 ≤ 8 → FirstFault ws i → FirstFault (w ∷ ws) (suc i)
+    later i c f =
         record {
           before = w ∷ f .before;
           op = f .op;
           after = f .after;
           split = ap (λ (l : List ℕ). w ∷ l) (f .split);
+          index = ap suc (f .index);
           passed = one-more c (f .passed);
           faulty = f .faulty;
         }
 
-    go : FirstFault ws ⊎ Faultless ws → (8 < w % 16) ⊎ (w % 16 ≤ 8) → FirstFault (w ∷ ws) ⊎ Faultless (w ∷ ws)
-    go r (inl c) = inl (here c)
-    go (inl f) (inr c) = inl (later c f)
+    go : ((i : ℕ) × FirstFault ws i) ⊎ Faultless ws → (8 < w % 16) ⊎ (w % 16 ≤ 8) → ((i : ℕ) × FirstFault (w ∷ ws) i) ⊎ Faultless (w ∷ ws)
+    go r (inl c) = inl (0, here c)
+    go (inl f) (inr c) = inl (suc (f .0), later (f .0) c (f .1))
     go (inr h) (inr c) = inr (one-more c h)
 
 -- ---- the answers
 -- each answer, with what it is given for
 data Given (count : ℕ) (ops : List ℕ) (place : ℕ) : Operations → Type 0 where
-  by-code : FirstFault ops → Given count ops place (Ops.Refused (OperationCode place))
+  by-code : (i : ℕ) → FirstFault ops i → Given count ops place (Ops.Refused (OperationCode place i))
   by-total : Faultless ops → BadTotal count ops → Given count ops place (Ops.Refused (ReadTotal place))
   passes : Faultless ops → (BadTotal count ops → ⊥) → Given count ops place (Ops.Uses (refSum ops))
 
 -- the reason of an answer
-code-of : {count : ℕ} {ops : List ℕ} {place at : ℕ} → Given count ops place (Ops.Refused (OperationCode at)) → FirstFault ops
-code-of (by-code f) = f
+code-of : {count : ℕ} {ops : List ℕ} {place at i : ℕ} → Given count ops place (Ops.Refused (OperationCode at i)) → FirstFault ops i
+code-of (by-code i f) = f
 
 total-of : {count : ℕ} {ops : List ℕ} {place at : ℕ} → Given count ops place (Ops.Refused (ReadTotal at)) → Faultless ops × BadTotal count ops
 total-of (by-total h t) = (h, t)
@@ -125,8 +129,8 @@ module _ (y : Layout) (s : List ℕ) (place : ℕ) where
   answer-of w e = ap (judged (y .count) (length (opsIn y s)) place) e
 
   -- where a condition holds, its answer is given
-  code-given : FirstFault (opsIn y s) → operationsOf y s place ≡ Ops.Refused (OperationCode place)
-  code-given f = answer-of UnknownCode (stop-code (opsIn y s) _ f)
+  code-given : (i : ℕ) → FirstFault (opsIn y s) i → operationsOf y s place ≡ Ops.Refused (OperationCode place i)
+  code-given i f = answer-of (UnknownCode i) (stop-code (opsIn y s) i _ f)
 
   -- without a faulty operation the read total decides
   totals-of : Faultless (opsIn y s)
@@ -143,10 +147,10 @@ module _ (y : Layout) (s : List ℕ) (place : ℕ) where
   given : Given (y .count) (opsIn y s) place (operationsOf y s place)
   given = go (first-fault (opsIn y s)) (total-tested (y .count) (opsIn y s))
     where
-      go : FirstFault (opsIn y s) ⊎ Faultless (opsIn y s)
+      go : ((i : ℕ) × FirstFault (opsIn y s) i) ⊎ Faultless (opsIn y s)
           → Tested (y .count) (opsIn y s) (ltb 0 (y .count) && ltb 0 (length (opsIn y s)) && not (eqb (readSum (opsIn y s)) (y .count)))
           → Given (y .count) (opsIn y s) place (operationsOf y s place)
-      go (inl f) t = rw (code-given f) (by-code f)
+      go (inl f) t = rw (code-given (f .0) (f .1)) (by-code (f .0) (f .1))
       go (inr h) (inl t) = rw (total-given h (t .0)) (by-total h (t .0))
       go (inr h) (inr t) = rw (uses-given h (t .0)) (passes h (t .0))
 
@@ -158,14 +162,14 @@ module _ (y : Layout) (s : List ℕ) (place : ℕ) where
   pub operations-exact : GivenExactly (y .count) (opsIn y s) place (operationsOf y s place)
   operations-exact =
       record {
-        code = (λ e. code-of (given-as e), code-given);
+        code = λ i. (λ e. code-of (given-as e), code-given i);
         total = (λ e. total-of (given-as e), λ h. total-given (h .0) (h .1));
         uses = λ n. (λ e. uses-of (given-as e), λ h. uses-given (h .0) (h .1) ∙ ap Ops.Uses (sym (h .2)));
         decided = one-of given;
       }
     where
       one-of : {r : Operations} → Given (y .count) (opsIn y s) place r
-          → (r ≡ Ops.Refused (OperationCode place)) ⊎ ((r ≡ Ops.Refused (ReadTotal place)) ⊎ (r ≡ Ops.Uses (refSum (opsIn y s))))
-      one-of (by-code f) = inl refl
+          → ((i : ℕ) × (r ≡ Ops.Refused (OperationCode place i))) ⊎ ((r ≡ Ops.Refused (ReadTotal place)) ⊎ (r ≡ Ops.Uses (refSum (opsIn y s))))
+      one-of (by-code i f) = inl (i, refl)
       one-of (by-total h t) = inr (inl refl)
       one-of (passes h t) = inr (inr refl)

@@ -22,36 +22,37 @@ use Rattle.cigar.proofs.PlaceLaws.{kind-bad, ops-step, ops-short}
 use Rattle.cigar.proofs.CursorLaws.{le-take}
 
 -- at a code of 0 to 8 the walk goes on
-pub known-kind : (c : ℕ) (x : Walk) → c ≤ 8 → onKind (kindOf c) x ≡ x
-known-kind zero x h = refl
-known-kind (suc zero) x h = refl
-known-kind (suc (suc zero)) x h = refl
-known-kind (suc (suc (suc zero))) x h = refl
-known-kind (suc (suc (suc (suc zero)))) x h = refl
-known-kind (suc (suc (suc (suc (suc zero))))) x h = refl
-known-kind (suc (suc (suc (suc (suc (suc zero)))))) x h = refl
-known-kind (suc (suc (suc (suc (suc (suc (suc zero))))))) x h = refl
-known-kind (suc (suc (suc (suc (suc (suc (suc (suc zero)))))))) x h = refl
-known-kind (suc (suc (suc (suc (suc (suc (suc (suc (suc n))))))))) x h = absurd (omega arith)
+pub known-kind : (c i : ℕ) (x : Walk) → c ≤ 8 → onKind (kindOf c) i x ≡ x
+known-kind zero i x h = refl
+known-kind (suc zero) i x h = refl
+known-kind (suc (suc zero)) i x h = refl
+known-kind (suc (suc (suc zero))) i x h = refl
+known-kind (suc (suc (suc (suc zero)))) i x h = refl
+known-kind (suc (suc (suc (suc (suc zero))))) i x h = refl
+known-kind (suc (suc (suc (suc (suc (suc zero)))))) i x h = refl
+known-kind (suc (suc (suc (suc (suc (suc (suc zero))))))) i x h = refl
+known-kind (suc (suc (suc (suc (suc (suc (suc (suc zero)))))))) i x h = refl
+known-kind (suc (suc (suc (suc (suc (suc (suc (suc (suc n))))))))) i x h = absurd (omega arith)
 
--- what the walk has left to say at byte `at`, with so much used before it
-abbrev pub fromHere : List ℕ → ℕ → ℕ → Walk
-fromHere ops q r = faultOr ops (Totals (q + readSum ops) (r + refSum ops))
+-- what the walk has left to say of operations whose indexes begin at i, with so much used before them
+abbrev pub fromHere : List ℕ → ℕ → ℕ → ℕ → Walk
+fromHere ops i q r = faultOr ops i (Totals (q + readSum ops) (r + refSum ops))
 
 pub record Walking (l : List ℕ) (from end at q r : ℕ) : Type 0 where
   pub low : at ≤ end
+  pub on : from ≤ at
   pub reads : q ≤ at * 268435456
   pub refs : r ≤ at * 268435456
-  pub left : fromHere (operations at end l) q r ≡ walkOf (operations from end l)
+  pub left : fromHere (operations at end l) ((at - from) / 4) q r ≡ walkOf (operations from end l)
 
-totals-as : (ops : List ℕ) (a b c d : ℕ) → a ≡ b → c ≡ d → faultOr ops (Totals a c) ≡ faultOr ops (Totals b d)
-totals-as ops a b c d e f = ap₂ (λ (x y : ℕ). faultOr ops (Totals x y)) e f
+totals-as : (ops : List ℕ) (i j a b c d : ℕ) → i ≡ j → a ≡ b → c ≡ d → faultOr ops i (Totals a c) ≡ faultOr ops j (Totals b d)
+totals-as ops i j a b c d g e f = ap₂ (λ (x y : ℕ). faultOr ops i (Totals x y)) e f ∙ ap (λ (k : ℕ). faultOr ops k (Totals b d)) g
 
 module _ (l : List ℕ) (from end : ℕ) (fits : end ≤ length l) where
   pub walking-start : from ≤ end → Walking l from end from 0 0
   walking-start h =
       let ops = operations from end l in
-      record { low = h; reads = omega arith; refs = omega arith; left = totals-as ops _ _ _ _ (omega arith) (omega arith) }
+      record { low = h; on = omega arith; reads = omega arith; refs = omega arith; left = totals-as ops _ _ _ _ _ _ (omega arith) (omega arith) (omega arith) }
 
   module _ (at q r : ℕ) (h : Walking l from end at q r) where
     long : length (take end l) ≡ end
@@ -70,23 +71,28 @@ module _ (l : List ℕ) (from end : ℕ) (fits : end ≤ length l) where
       split : operations at end l ≡ w ∷ operations (at + 4) end l
       split = ops-step (take end l) at (omega (arith, long)) ∙ ap (λ (x : ℕ). x ∷ operations (at + 4) end l) (le-take 4 l end at more ∙ sym is)
 
-      next : onKind (kind w) (fromHere (operations (at + 4) end l) (q + readLen w) (r + refLen w)) ≡ walkOf (operations from end l)
+      -- the index of the operation after this one
+      index : (at + 4 - from) / 4 ≡ suc ((at - from) / 4)
+      index = omega (arith, h .on)
+
+      next : onKind (kind w) ((at - from) / 4) (fromHere (operations (at + 4) end l) ((at + 4 - from) / 4) (q + readLen w) (r + refLen w)) ≡ walkOf (operations from end l)
       unfolding faultOr readSum refSum
       next =
-          ap (onKind (kind w)) (totals-as (operations (at + 4) end l) _ _ _ _ (omega arith) (omega arith))
+          ap (onKind (kind w) ((at - from) / 4)) (totals-as (operations (at + 4) end l) _ _ _ _ _ _ index (omega arith) (omega arith))
           ∙ (rw split at (h .left))
 
-      pub walking-code : 8 < w % 16 → UnknownCode ≡ walkOf (operations from end l)
-      walking-code k = (rw (kind-bad (w % 16) k) at next)
+      pub walking-code : (i : ℕ) → i ≡ (at - from) / 4 → 8 < w % 16 → UnknownCode i ≡ walkOf (operations from end l)
+      walking-code i e k = ap UnknownCode e ∙ (rw (kind-bad (w % 16) k) at next)
 
       pub walking-turn : (a b : ℕ) → w < 4294967296 → w % 16 ≤ 8 → (a ≡ readLen w) × (a ≤ w / 16) → (b ≡ refLen w) × (b ≤ w / 16)
           → Walking l from end (at + 4) (q + a) (r + b)
       walking-turn a b hw hc ha hb =
           record {
             low = more;
+            on = omega (arith, h .on);
             reads = omega (arith, h .reads, ha .1);
             refs = omega (arith, h .refs, hb .1);
-            left = rw (ha .0, hb .0) (sym (known-kind (w % 16) _ hc) ∙ next);
+            left = rw (ha .0, hb .0) (sym (known-kind (w % 16) ((at - from) / 4) _ hc) ∙ next);
           }
 
 -- ---- what is judged of the walk's answer
@@ -122,17 +128,17 @@ module _ (y : Layout) (l : List ℕ) (place : ℕ) where
         (rw (lt-ltb 0 (y .count) (omega arith), some, ne-eqb q (y .count) h) at (judged-as w (Totals q r) e f))
 
   -- ---- what an answer that is no refusal shows
-  through-kind : (k : Kind) (x : Walk) (q r : ℕ) → onKind k x ≡ Totals q r → x ≡ Totals q r
-  through-kind Both x q r e = e
-  through-kind Reference x q r e = e
-  through-kind Read x q r e = e
-  through-kind Neither x q r e = e
-  through-kind Unknown x q r e = let z : _≡_ {A = ℕ} 0 1 = cc in absurd (omega arith)
+  through-kind : (k : Kind) (i : ℕ) (x : Walk) (q r : ℕ) → onKind k i x ≡ Totals q r → x ≡ Totals q r
+  through-kind Both i x q r e = e
+  through-kind Reference i x q r e = e
+  through-kind Read i x q r e = e
+  through-kind Neither i x q r e = e
+  through-kind Unknown i x q r e = let z : _≡_ {A = ℕ} 0 1 = cc in absurd (omega arith)
 
-  good-totals : (ops : List ℕ) (good : Walk) (q r : ℕ) → faultOr ops good ≡ Totals q r → good ≡ Totals q r
+  good-totals : (ops : List ℕ) (i : ℕ) (good : Walk) (q r : ℕ) → faultOr ops i good ≡ Totals q r → good ≡ Totals q r
   unfolding faultOr
-  good-totals [] good q r e = e
-  good-totals (w ∷ ws) good q r e = good-totals ws good q r (through-kind (kind w) _ q r e)
+  good-totals [] i good q r e = e
+  good-totals (w ∷ ws) i good q r e = good-totals ws (suc i) good q r (through-kind (kind w) i _ q r e)
 
   pub record Used (uses : ℕ) : Type 0 where
     pub reference : uses ≡ refSum (opsIn y l)
@@ -163,8 +169,8 @@ module _ (y : Layout) (l : List ℕ) (place : ℕ) where
           record { reference = omega arith; read = λ h. absurd (omega (arith, ltb-false 0 (y .count) es)) }
 
       go : (w : Walk) → walkOf (opsIn y l) ≡ w → judged (y .count) (length (opsIn y l)) place w ≡ Ops.Uses uses → Used uses
-      go (Totals q r) f g = total q r (good-totals (opsIn y l) _ q r f) (opsIn y l) refl (ltb 0 (y .count)) (ltb 0 (length (opsIn y l))) (eqb q (y .count)) refl refl refl g
-      go UnknownCode f g = let z : _≡_ {A = ℕ} 0 1 = cc in absurd (omega arith)
+      go (Totals q r) f g = total q r (good-totals (opsIn y l) 0 _ q r f) (opsIn y l) refl (ltb 0 (y .count)) (ltb 0 (length (opsIn y l))) (eqb q (y .count)) refl refl refl g
+      go (UnknownCode i) f g = let z : _≡_ {A = ℕ} 0 1 = cc in absurd (omega arith)
 
 pub record Covered (pos uses : ℕ) (e : Extent) : Type 0 where
   pub first : e .start .0 ≡ pos + 1

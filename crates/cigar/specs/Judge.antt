@@ -1,5 +1,5 @@
 -- A record's operations judged: refusals 5, 7 and 8. A length of 0 is no fault.
-use Prim.Native.Nat.{ℕ, _+_}
+use Prim.Native.Nat.{ℕ, suc, _+_}
 use mathlib.Core.List.{List, [], _∷_}
 use mathlib.Core.Bool.{cond, _&&_, not}
 use lib.ListN.{length}
@@ -15,26 +15,26 @@ use Rattle.cigar.specs.declared.Extent.{Extent}
 use Rattle.cigar.specs.declared.Span.{Span}
 use Rattle.cigar.specs.declared.Span.the-variants as Spans
 
--- an operation's code, then what follows it
-abbrev pub onKind : Kind → Walk → Walk
-onKind Both rest = rest
-onKind Reference rest = rest
-onKind Read rest = rest
-onKind Neither rest = rest
-onKind Unknown rest = UnknownCode
+-- the code of the operation with index i, then what follows it
+abbrev pub onKind : Kind → ℕ → Walk → Walk
+onKind Both i rest = rest
+onKind Reference i rest = rest
+onKind Read i rest = rest
+onKind Neither i rest = rest
+onKind Unknown i rest = UnknownCode i
 
--- an unknown code, if there is one; else `good`
-unfoldable pub faultOr : List ℕ → Walk → Walk
-faultOr [] good = good
-faultOr (op ∷ ops) good = onKind (kind op) (faultOr ops good)
+-- of operations whose indexes begin at i, the first with an unknown code, if there is one; else `good`
+unfoldable pub faultOr : List ℕ → ℕ → Walk → Walk
+faultOr [] i good = good
+faultOr (op ∷ ops) i good = onKind (kind op) i (faultOr ops (suc i) good)
 
 abbrev pub walkOf : List ℕ → Walk
-walkOf ops = faultOr ops (Totals (readSum ops) (refSum ops))
+walkOf ops = faultOr ops 0 (Totals (readSum ops) (refSum ops))
 
 -- 5; then 7: bases and operations are there, and the lengths on the read don't total l_seq
 abbrev pub judged : ℕ → ℕ → ℕ → Walk → Operations
 judged count n place (Totals read reference) = cond (ltb 0 count && ltb 0 n && not (eqb read count)) (Ops.Refused (ReadTotal place)) (Ops.Uses reference)
-judged count n place UnknownCode = Ops.Refused (OperationCode place)
+judged count n place (UnknownCode i) = Ops.Refused (OperationCode place i)
 
 unfoldable pub operationsOf : Layout → List ℕ → ℕ → Operations
 operationsOf y s place = judged (y .count) (length (opsIn y s)) place (walkOf (opsIn y s))

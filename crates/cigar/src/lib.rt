@@ -6,7 +6,7 @@ use fields::RefPos;
 use refusal::Refusal;
 ghost use mathlib.Core.Path.{_≡_};
 ghost use mathlib.Core.Bool.{true, false};
-ghost use Prim.Native.Nat.{_+_, _/_, _%_, _≤_, _<_};
+ghost use Prim.Native.Nat.{_+_, _-_, _/_, _%_, _≤_, _<_};
 ghost use lib.ListN.{length, take};
 ghost use Rattle.fields.specs.Number.{unsigned};
 ghost use Rattle.fields.specs.Sound.{Lies};
@@ -27,10 +27,11 @@ pub struct Cursor {
     pub left: usize,
 }
 
-// How much of the read and of the reference all operations use, or that one has an unknown code.
+// How much of the read and of the reference all operations use, or the index of the first that has an
+// unknown code.
 pub enum Walk {
     Totals(usize, usize),
-    UnknownCode,
+    UnknownCode(u16),
 }
 
 // A record's operations judged: how much of the reference they use, or the refusal.
@@ -92,6 +93,14 @@ fn operation_at(s: &[u8], at: usize) -> usize
     fields::u32_at(s, at) as usize
 }
 
+// The index of the operation at a byte, from 0, where the first stands at `from`.
+fn index_at(from: usize, at: usize) -> u16
+    requires { ⌜ (from ≤ at) × (at ≤ 65536) ⌝ }
+    ensures { λ r. ⌜ r ≡ (at - from) / 4 ⌝ }
+{
+    ((at - from) / 4) as u16
+}
+
 // The operations between two bytes, front to back.
 fn walk_operations(s: &[u8], from: usize, end: usize) -> Walk
     requires { ⌜ (from ≤ end) × (end ≤ length (now s)) × (length (now s) ≤ 65536) ⌝ }
@@ -103,7 +112,7 @@ fn walk_operations(s: &[u8], from: usize, end: usize) -> Walk
     while 4 <= end - at {
         let op = operation_at(s, at);
         if unknown(op) {
-            return Walk::UnknownCode;
+            return Walk::UnknownCode(index_at(from, at));
         }
         read += read_len(op);
         reference += ref_len(op);
@@ -121,7 +130,7 @@ pub fn check_operations(s: &[u8], y: Layout, place: u16) -> Operations
     let end = y.bases;
     let w = walk_operations(s, from, end);
     match w {
-        Walk::UnknownCode => Operations::Refused(Refusal::OperationCode(place)),
+        Walk::UnknownCode(i) => Operations::Refused(Refusal::OperationCode(place, i)),
         Walk::Totals(read, reference) => {
             let count = y.count;
             if count == 0 {

@@ -16,23 +16,19 @@ use Rattle.pair.specs.Pair.{Outcome, outcome, pairOf}
 use Rattle.pair.proofs.ClearedLaws.{metAnswer, cleared-called}
 use Rattle.group_applying.specs.Applied.{overlapCount}
 use Rattle.group_applying.specs.Within.{overlapOf}
+use Rattle.group_applying.proofs.PutLaws.{overlap-met}
 use Rattle.filed_writing.specs.Written.{applied, Treats}
 
 -- counts from zero have room for any pair
 pub zero-room : (z : CorrectionStats) → z ≡ zeroed → Room z 131072
 zero-room z e = rw e (room-less zeroed 131072 (128 * 131072) (omega arith) (full-room zeroed refl))
 
--- a pair overlaps where it shares a position
-overlap-met : (n : ℕ) → overlapOf n ≡ overlapCount (metAnswer n)
-overlap-met zero = refl
-overlap-met (suc n) = refl
-
 pub treats : (w : Strategies) (a b : List ℕ) → Cleared a b → (z : CorrectionStats) → z ≡ zeroed → (r : Met) (a′ b′ : List ℕ)
     → TreatedAt (whereOf a b) w (state a b z) (state a′ b′ (r .stats)) (r .shared) → (n : ℕ) → n ≡ overlapOf (r .shared) → Treats w a b a′ b′ (applied 1 n (r .stats))
 treats w a b k z ez r a′ b′ q n en =
-    let o : outcome (metAnswer (r .shared)) (state a′ b′ (r .stats)) ≡ pairOf w (state a b zeroed)
-    = cleared-called w (state a b zeroed) refl k (state a′ b′ (r .stats)) (r .shared) (rw ez at q) in
-    let l : n ≡ overlapCount (pairOf w (state a b zeroed) .answer) = en ∙ overlap-met (r .shared) ∙ ap (λ (x : Outcome). overlapCount (x .answer)) o in
+    let called = cleared-called w (state a b zeroed) refl k (state a′ b′ (r .stats)) (r .shared) (rw ez at q) in
+    let o : outcome (metAnswer (called .0) (r .shared)) (state a′ b′ (r .stats)) ≡ pairOf w (state a b zeroed) = called .1 in
+    let l : n ≡ overlapCount (pairOf w (state a b zeroed) .answer) = en ∙ overlap-met (called .0) (r .shared) ∙ ap (λ (x : Outcome). overlapCount (x .answer)) o in
     let h : r .stats ≡ pairOf w (state a b zeroed) .after .stats = ap (λ (x : Outcome). x .after .stats) o in
     record {
       first = ap (λ (x : Outcome). x .after .first) o;

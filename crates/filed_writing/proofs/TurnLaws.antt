@@ -52,7 +52,7 @@ counting-start w s n a few e =
     })
 
 overlap-one : (a : Answer) → overlapCount a ≤ 1
-overlap-one NoOverlap = omega arith
+overlap-one (NoOverlap r) = omega arith
 overlap-one Overlap = omega arith
 overlap-one (Refused r) = omega arith
 

@@ -29,7 +29,7 @@ module _ (w : Strategies) (s : State) where
     where
       go : (a : Answer) → pairOf w s .answer ≡ a → getD (pairOf w s .after .first) k 0 ≡ getD (s .first) k 0
       go (Answers.Refused r) e = ap (λ (x : State). getD (x .first) k 0) (refused-keeps w s (pairOf w s .after) r (named (Answers.Refused r) e))
-      go Answers.NoOverlap e = ap (λ (x : State). getD (x .first) k 0) (apart-keeps w s (pairOf w s .after) (named Answers.NoOverlap e))
+      go (Answers.NoOverlap x) e = ap (λ (u : State). getD (u .first) k 0) (apart-keeps w s (pairOf w s .after) x (named (Answers.NoOverlap x) e))
       go Answers.Overlap e =
           let al = overlap-aligned w s (pairOf w s .after) (named Answers.Overlap e) in
           promise w s (pairOf w s) refl (λ r f. let z : _≡_ {A = ℕ} 0 1 = cc in omega arith) al .corrected .outside₁ k o
@@ -39,7 +39,7 @@ module _ (w : Strategies) (s : State) where
     where
       go : (a : Answer) → pairOf w s .answer ≡ a → getD (pairOf w s .after .second) k 0 ≡ getD (s .second) k 0
       go (Answers.Refused r) e = ap (λ (x : State). getD (x .second) k 0) (refused-keeps w s (pairOf w s .after) r (named (Answers.Refused r) e))
-      go Answers.NoOverlap e = ap (λ (x : State). getD (x .second) k 0) (apart-keeps w s (pairOf w s .after) (named Answers.NoOverlap e))
+      go (Answers.NoOverlap x) e = ap (λ (u : State). getD (u .second) k 0) (apart-keeps w s (pairOf w s .after) x (named (Answers.NoOverlap x) e))
       go Answers.Overlap e =
           let al = overlap-aligned w s (pairOf w s .after) (named Answers.Overlap e) in
           promise w s (pairOf w s) refl (λ r f. let z : _≡_ {A = ℕ} 0 1 = cc in omega arith) al .corrected .outside₂ k o

@@ -87,7 +87,7 @@ module _ (w : Strategies) (s : List ℕ) (f : ℕ → ℕ) (r : Refusal) where
             refused = q ∙ ap Answers.Refused b;
             before = λ i′ j′ r′ x′ l y′. omega (arith, x′ .low);
           }
-      at j Answers.NoOverlap d q rest t = wider a m (passes j Answers.NoOverlap d q refl) (rest t)
+      at j (Answers.NoOverlap x) d q rest t = wider a m (passes j (Answers.NoOverlap x) d q refl) (rest t)
       at j Answers.Overlap d q rest t = wider a m (passes j Answers.Overlap d q refl) (rest t)
 
       go : (v : ℕ) → f a ≡ v → (judgeBy (verdictAt w s) (pairsFrom f (suc a) m) ≡ Verdicts.Refused r → First w s f (suc a) m r)

@@ -12,7 +12,7 @@ use lib.Seq.{ext-getD, getD-take, getD-drop}
 use Rattle.fields.proofs.Arith.{lt-or-le}
 use Rattle.refusal.specs.declared.Refusal.{Refusal}
 use Rattle.refusal.specs.declared.Refusal.the-variants.{Count, Strategy}
-use Rattle.refusal.specs.Table.{numberOf, placeOf}
+use Rattle.refusal.specs.Table.{numberOf, placeOf, operationOf}
 use Rattle.stats.specs.declared.CorrectionStats.{CorrectionStats}
 use Rattle.stats.specs.Counts.{plus, full}
 use Rattle.stats.proofs.CountLaws.{plus-assoc, plus-zero}
@@ -179,7 +179,7 @@ module _ (m k : ℕ) (s : List ℕ) (g : CorrectionStats) where
 
       never : (r : Refusal) → call ≡ ended (Refused r) s g → Wanted
       never r d =
-          let q : numberOf r ∷ placeOf r ∷ [] ≡ 0 ∷ n ∷ p ∷ o ∷ [] = sym (said (ended (Refused r) s g) d) ∙ e in
+          let q : numberOf r ∷ placeOf r ∷ operationOf r ∷ [] ≡ 0 ∷ n ∷ p ∷ o ∷ [] = sym (said (ended (Refused r) s g) d) ∙ e in
           let z : _≡_ {A = ℕ} 0 1 = cc in absurd (omega arith)
 
       go : Case m k s g call → Wanted
@@ -211,32 +211,33 @@ module _ (m k : ℕ) (s : List ℕ) (g : CorrectionStats) where
           let q : Refused r ≡ Done n _ _ = ap (λ (x : Ended). x .answer) (sym e ∙ d) in
           let z : _≡_ {A = ℕ} 0 1 = cc in absurd (omega arith)
 
-  -- number x and place y are answered exactly where the first check that fails gives them
-  pub decided : (x y : ℕ) → (groupNumbers (call .answer) ≡ x ∷ y ∷ []) ↔ FirstFailed m k s g x y
-  decided x y = (λ e. to e (cases m k s g), from x y)
+  -- number x, place y and operation z are answered exactly where the first check that fails gives them
+  pub decided : (x y z : ℕ) → (groupNumbers (call .answer) ≡ x ∷ y ∷ z ∷ []) ↔ FirstFailed m k s g x y z
+  decided x y z = (λ e. to e (cases m k s g), from x y z)
     where
-      by : (r : Refusal) → groupNumbers (call .answer) ≡ x ∷ y ∷ [] → call ≡ ended (Refused r) s g
-          → FirstFailed m k s g (numberOf r) (placeOf r) → FirstFailed m k s g x y
+      by : (r : Refusal) → groupNumbers (call .answer) ≡ x ∷ y ∷ z ∷ [] → call ≡ ended (Refused r) s g
+          → FirstFailed m k s g (numberOf r) (placeOf r) (operationOf r) → FirstFailed m k s g x y z
       by r e d f =
-          let q : numberOf r ∷ placeOf r ∷ [] ≡ x ∷ y ∷ [] = sym (said (ended (Refused r) s g) d) ∙ e in
+          let q : numberOf r ∷ placeOf r ∷ operationOf r ∷ [] ≡ x ∷ y ∷ z ∷ [] = sym (said (ended (Refused r) s g) d) ∙ e in
           let u : numberOf r ≡ x = cc in
           let v : placeOf r ≡ y = cc in
-          subst₂ (FirstFailed m k s g) u v f
+          let h : operationOf r ≡ z = cc in
+          subst (FirstFailed m k s g x y) h (subst₂ (λ (i j : ℕ). FirstFailed m k s g i j (operationOf r)) u v f)
 
-      to : groupNumbers (call .answer) ≡ x ∷ y ∷ [] → Case m k s g call → FirstFailed m k s g x y
+      to : groupNumbers (call .answer) ≡ x ∷ y ∷ z ∷ [] → Case m k s g call → FirstFailed m k s g x y z
       to e (no-strategies a d) = by Strategy e d (by-strategies a)
       to e (full-counts w a b d) = by Count e d (by-counts w a b)
       to e (broken-frames w r a b c d) = by r e d (by-frames w r a b c)
       to e (refused-pair w n r a b c j d) = by r e d (by-pair w n r a b c (judged-first w s n r j))
       to e (all-treated w n a b c j d) =
-          let q : 0 ∷ n ∷ _ ∷ _ ∷ [] ≡ x ∷ y ∷ [] = sym (said (onPairs w s g n Verdicts.Passed) d) ∙ e in
-          let z : _≡_ {A = ℕ} 0 1 = cc in absurd (omega arith)
+          let q : 0 ∷ n ∷ _ ∷ _ ∷ [] ≡ x ∷ y ∷ z ∷ [] = sym (said (onPairs w s g n Verdicts.Passed) d) ∙ e in
+          let c : _≡_ {A = ℕ} 0 1 = cc in absurd (omega arith)
 
-      from : (x₁ y₁ : ℕ) → FirstFailed m k s g x₁ y₁ → groupNumbers (call .answer) ≡ x₁ ∷ y₁ ∷ []
-      from x₁ y₁ (by-strategies a) = said _ (ends-unnamed m k s g a)
-      from x₁ y₁ (by-counts w a b) = said _ (ends-full m k s g w a b)
-      from x₁ y₁ (by-frames w r a b c) = said _ (ends-framed m k s g w a b ∙ ap (onFrames w s g) c)
-      from x₁ y₁ (by-pair w n r a b c f) = said _ (ends-judged m k s g w a b n c (Verdicts.Refused r) (first-judged w s n r f))
+      from : (x₁ y₁ z₁ : ℕ) → FirstFailed m k s g x₁ y₁ z₁ → groupNumbers (call .answer) ≡ x₁ ∷ y₁ ∷ z₁ ∷ []
+      from x₁ y₁ z₁ (by-strategies a) = said _ (ends-unnamed m k s g a)
+      from x₁ y₁ z₁ (by-counts w a b) = said _ (ends-full m k s g w a b)
+      from x₁ y₁ z₁ (by-frames w r a b c) = said _ (ends-framed m k s g w a b ∙ ap (onFrames w s g) c)
+      from x₁ y₁ z₁ (by-pair w n r a b c f) = said _ (ends-judged m k s g w a b n c (Verdicts.Refused r) (first-judged w s n r f))
 
   -- 0 and three numbers, n the first, are answered exactly where m and k name strategies, no count is full, the n frames are whole and no
   -- pair of mates is refused
@@ -266,5 +267,5 @@ module _ (m k : ℕ) (s : List ℕ) (g : CorrectionStats) where
           let z : _≡_ {A = ℕ} 0 1 = cc in absurd (omega arith)
 
   -- no second refusal fits
-  pub one-refusal : (x y x′ y′ : ℕ) → FirstFailed m k s g x y → FirstFailed m k s g x′ y′ → (x ≡ x′) × (y ≡ y′)
-  one-refusal x y x′ y′ a b = let q : x ∷ y ∷ [] ≡ x′ ∷ y′ ∷ [] = sym (decided x y .1 a) ∙ decided x′ y′ .1 b in (cc, cc)
+  pub one-refusal : (x y z x′ y′ z′ : ℕ) → FirstFailed m k s g x y z → FirstFailed m k s g x′ y′ z′ → (x ≡ x′) × (y ≡ y′) × (z ≡ z′)
+  one-refusal x y z x′ y′ z′ a b = let q : x ∷ y ∷ z ∷ [] ≡ x′ ∷ y′ ∷ z′ ∷ [] = sym (decided x y z .1 a) ∙ decided x′ y′ z′ .1 b in (cc, cc, cc)

@@ -5,7 +5,7 @@ use mathlib.Core.List.{List, [], _∷_}
 use lib.ListN.{length}
 use Rattle.refusal.specs.declared.Refusal.{Refusal}
 use Rattle.refusal.specs.declared.Refusal.the-variants.{Count}
-use Rattle.refusal.specs.Table.{numberOf, placeOf}
+use Rattle.refusal.specs.Table.{numberOf, placeOf, operationOf}
 use Rattle.stats.specs.declared.CorrectionStats.{CorrectionStats}
 use Rattle.stats.specs.Counts.{full}
 use Rattle.strategy.specs.declared.Strategies.{Strategies}
@@ -23,10 +23,10 @@ use Rattle.group_applying.specs.Applied.{written, grown, overlapsIn}
 use Rattle.group.specs.declared.GroupAnswer.{GroupAnswer}
 use Rattle.group.specs.declared.GroupAnswer.the-variants.{Done, Refused}
 
--- the answer in the paper's numbers: 0, then the numbers of records, pairs and pairs overlapping; or a refusal's number, then its place
+-- the answer in the paper's numbers: 0, then the numbers of records, pairs and pairs overlapping; or a refusal's number, its place, and the index of the operation at fault
 abbrev pub groupNumbers : GroupAnswer → List ℕ
 groupNumbers (Done n p o) = 0 ∷ n ∷ p ∷ o ∷ []
-groupNumbers (Refused r) = numberOf r ∷ placeOf r ∷ []
+groupNumbers (Refused r) = numberOf r ∷ placeOf r ∷ operationOf r ∷ []
 
 -- the answer, and the group and the counts after the call
 pub record Ended : Type 0 where

@@ -8,7 +8,7 @@ use mathlib.Core.Logic.{_⊎_}
 use lib.ListN.{length, getD}
 use Rattle.refusal.specs.declared.Refusal.{Refusal}
 use Rattle.refusal.specs.declared.Refusal.the-variants.{Strategy}
-use Rattle.refusal.specs.Table.{numberOf, placeOf}
+use Rattle.refusal.specs.Table.{numberOf, placeOf, operationOf}
 use Rattle.stats.specs.declared.CorrectionStats.{CorrectionStats}
 use Rattle.stats.specs.Counts.{zeroed, plus, full}
 use Rattle.strategy.specs.declared.Strategies.{Strategies}
@@ -56,10 +56,10 @@ pub record FirstRefused (w : Strategies) (s : List ℕ) (n : ℕ) (r : Refusal) 
   pub refused : judgedAt w s i j ≡ Answers.Refused r
   pub before : (i′ j′ : ℕ) (r′ : Refusal) → Mates s n i′ j′ → i′ < i → judgedAt w s i′ j′ ≡ Answers.Refused r′ → ⊥
 
--- the number x and the place y of the first check that fails: of the strategies' numbers m and k, the counts g, the frames of s, its pairs
-pub data FirstFailed (m k : ℕ) (s : List ℕ) (g : CorrectionStats) : ℕ → ℕ → Type 0 where
-  by-strategies : numberedOf m k ≡ Numbers.Refused Strategy → FirstFailed m k s g 10 0
-  by-counts : (w : Strategies) → numberedOf m k ≡ Numbers.Are w → full g ≡ true → FirstFailed m k s g 9 0
-  by-frames : (w : Strategies) (r : Refusal) → numberedOf m k ≡ Numbers.Are w → full g ≡ false → framesOf s ≡ Broken r → FirstFailed m k s g (numberOf r) (placeOf r)
+-- the number x, the place y and the operation z of the first check that fails: of the strategies' numbers m and k, the counts g, the frames of s, its pairs
+pub data FirstFailed (m k : ℕ) (s : List ℕ) (g : CorrectionStats) : ℕ → ℕ → ℕ → Type 0 where
+  by-strategies : numberedOf m k ≡ Numbers.Refused Strategy → FirstFailed m k s g 10 0 0
+  by-counts : (w : Strategies) → numberedOf m k ≡ Numbers.Are w → full g ≡ true → FirstFailed m k s g 9 0 0
+  by-frames : (w : Strategies) (r : Refusal) → numberedOf m k ≡ Numbers.Are w → full g ≡ false → framesOf s ≡ Broken r → FirstFailed m k s g (numberOf r) (placeOf r) (operationOf r)
   by-pair : (w : Strategies) (n : ℕ) (r : Refusal) → numberedOf m k ≡ Numbers.Are w → full g ≡ false → framesOf s ≡ Whole n → FirstRefused w s n r
-      → FirstFailed m k s g (numberOf r) (placeOf r)
+      → FirstFailed m k s g (numberOf r) (placeOf r) (operationOf r)

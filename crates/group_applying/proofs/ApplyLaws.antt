@@ -71,7 +71,7 @@ applying-start w s g n few r v =
     })
 
 overlap-one : (a : Answer) → overlapCount a ≤ 1
-overlap-one NoOverlap = omega arith
+overlap-one (NoOverlap r) = omega arith
 overlap-one Overlap = omega arith
 overlap-one (Refused r) = omega arith
 

@@ -27,7 +27,8 @@ use Rattle.pair_judgement.specs.declared.Judged.{Judged}
 use Rattle.pair_judgement.specs.declared.Judged.the-variants as Judge
 use Rattle.pair.specs.declared.Answer.the-variants as Answers
 use Rattle.pair_judgement.specs.Judgement.{judgedOf}
-use Rattle.pair.specs.Pair.{Outcome, outcome, onJudged, onGood, recordsOf, pairOf}
+use Rattle.pair.specs.Pair.{Outcome, outcome, onReference, onJudged, onGood, recordsOf, pairOf}
+use Rattle.pair_judgement.specs.Reason.{lengthless}
 use Rattle.pair_judgement.proofs.TreatLaws.{few-bases}
 
 -- ---- both records keep their lengths
@@ -42,10 +43,14 @@ long-good s (Bad r) f h = record { first = refl; second = refl }
 long-judged : (w : Strategies) (y z : Layout) (s : State) (k : Judged) → Long s (onJudged w y z s k)
 unfolding merged
 long-judged w y z s (Judge.Refused r) = record { first = refl; second = refl }
-long-judged w y z s Judge.Apart = record { first = refl; second = refl }
-long-judged w y z s (Judge.Both p q) =
-    let h = steps-length (job w y z) (shared y z (p .start) (q .start) (s .first) (s .second)) s in
-    record { first = h .0; second = h .1 }
+long-judged w y z s (Judge.Apart r) = record { first = refl; second = refl }
+long-judged w y z s (Judge.Both p q) = go (lengthless p q)
+  where
+    go : (t : Bool) → Long s (onReference w y z s (p .start) (q .start) t)
+    go true = record { first = refl; second = refl }
+    go false =
+        let h = steps-length (job w y z) (shared y z (p .start) (q .start) (s .first) (s .second)) s in
+        record { first = h .0; second = h .1 }
 
 pub call-long : (w : Strategies) (s : State) → Long s (pairOf w s)
 unfolding pairOf recordsOf
@@ -78,11 +83,15 @@ module _ (w : Strategies) (a b : List ℕ) where
   most-judged : (y z : Layout) → 2 * y .count ≤ 131072 → (k : Judged) → AtMost 131072 (onJudged w y z s k .after .stats)
   unfolding merged
   most-judged y z h (Judge.Refused r) = zero-most 131072
-  most-judged y z h Judge.Apart = zero-most 131072
-  most-judged y z h (Judge.Both p q) =
-      let l = shared y z (p .start) (q .start) a b in
-      let few = rises-length (y .count) (z .count) 0 0 (shared y z (p .start) (q .start) a b) (shared-rises w y z (p .start) (q .start) s) in
-      most-less (0 + 2 * length l) 131072 _ (omega (arith, few)) (steps-most (job w y z) l s 0 (zero-most 0))
+  most-judged y z h (Judge.Apart r) = zero-most 131072
+  most-judged y z h (Judge.Both p q) = go (lengthless p q)
+    where
+      go : (t : Bool) → AtMost 131072 (onReference w y z s (p .start) (q .start) t .after .stats)
+      go true = zero-most 131072
+      go false =
+          let l = shared y z (p .start) (q .start) a b in
+          let few = rises-length (y .count) (z .count) 0 0 (shared y z (p .start) (q .start) a b) (shared-rises w y z (p .start) (q .start) s) in
+          most-less (0 + 2 * length l) 131072 _ (omega (arith, few)) (steps-most (job w y z) l s 0 (zero-most 0))
 
   pub call-most : AtMost 131072 (pairOf w (state a b zeroed) .after .stats)
   unfolding pairOf recordsOf

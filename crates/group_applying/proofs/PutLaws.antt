@@ -12,6 +12,7 @@ use Rattle.stats.proofs.CountLaws.{room-less, full-room}
 use Rattle.strategy.specs.declared.Strategies.{Strategies}
 use Rattle.positions.specs.Step.{state}
 use Rattle.pair_merge.specs.declared.Met.{Met}
+use Rattle.pair_judgement.specs.declared.Reason.{Reason}
 use Rattle.pair_judgement.specs.Where.{whereOf}
 use Rattle.pair_judgement.specs.Ready.{Cleared, TreatedAt}
 use Rattle.pair.specs.Pair.{Outcome, outcome}
@@ -27,9 +28,9 @@ pub copied-over : (xs ys : List ℕ) → length ys ≡ length xs → take (lengt
 copied-over xs ys e = ap₂ _++_ (take-length xs) (ap (λ (n : ℕ). drop n ys) (sym e) ∙ drop-length ys) ∙ append-nil xs
 
 -- a pair overlaps where it shares a position
-overlap-met : (n : ℕ) → overlapOf n ≡ overlapCount (metAnswer n)
-overlap-met zero = refl
-overlap-met (suc n) = refl
+pub overlap-met : (r : Reason) (n : ℕ) → overlapOf n ≡ overlapCount (metAnswer r n)
+overlap-met r zero = refl
+overlap-met r (suc n) = refl
 
 pub some-overlap : (n : ℕ) → (n ≡ 0 → ⊥) → 1 ≡ overlapOf n
 some-overlap zero h = absurd (h refl)
@@ -65,12 +66,12 @@ module _ (w : Strategies) (s room : List ℕ) (a e b h : ℕ) (k : Within s (len
       → d ≡ part (splice (splice room 0 (h - b) c) 0 (h - b) v) 0 (h - b)
       → BothPut w s a e b h (splice (splice s a e f) b h d) r
   put-as j r z f v d ez q lv ed =
-      let o : outcome (metAnswer (r .shared)) (state f v (r .stats)) ≡ callIn w s a e b h
-      = cleared-called w (state (part s a e) (part s b h) zeroed) refl j (state f v (r .stats)) (r .shared) (rw (lent-is, ez) at q) in
+      let called = cleared-called w (state (part s a e) (part s b h) zeroed) refl j (state f v (r .stats)) (r .shared) (rw (lent-is, ez) at q) in
+      let o : outcome (metAnswer (called .0) (r .shared)) (state f v (r .stats)) ≡ callIn w s a e b h = called .1 in
       let i : h - b ≤ length lent = omega (arith, lent-size, k .room) in
       let back : d ≡ v = ed ∙ part-put lent v 0 (h - b) (omega arith) i (lv ∙ length-part lent 0 (h - b) (omega arith) i) in
       record {
         bytes = ap₂ (λ (x y : List ℕ). splice (splice s a e x) b h y) (ap (λ (x : Outcome). x .after .first) o) (back ∙ ap (λ (x : Outcome). x .after .second) o);
-        overlap = overlap-met (r .shared) ∙ ap (λ (x : Outcome). overlapCount (x .answer)) o;
+        overlap = overlap-met (called .0) (r .shared) ∙ ap (λ (x : Outcome). overlapCount (x .answer)) o;
         stats = ap (λ (x : Outcome). x .after .stats) o;
       }

@@ -24,7 +24,7 @@ grown w s [] g = g
 grown w s (e ∷ l) g = grown w s l (plus g (pairAt w s (e .0) (e .1) .after .stats))
 
 abbrev pub overlapCount : Answer → ℕ
-overlapCount NoOverlap = 0
+overlapCount (NoOverlap r) = 0
 overlapCount Overlap = 1
 overlapCount (Refused r) = 0
 

@@ -2,6 +2,7 @@
 use Prim.Native.Nat.{ℕ}
 use mathlib.Core.Path.{_≡_, refl, ap, _∙_}
 use mathlib.Core.List.{List, [], _∷_}
+use mathlib.Core.Bool.{Bool, true, false}
 use mathlib.Core.Logic.{_⊎_, ⊎-elim}
 use native.Mathlib.Omega.{arith}
 use Rattle.refusal.specs.declared.Refusal.{Refusal}
@@ -21,7 +22,8 @@ use Rattle.pair_judgement.specs.declared.Judged.{Judged}
 use Rattle.pair_judgement.specs.declared.Judged.the-variants as Judge
 use Rattle.pair_judgement.specs.Judgement.{judgedOf}
 use Rattle.pair_judgement.specs.Ready.{Cleared}
-use Rattle.pair.specs.Pair.{answerOf, onJudged, onGood, recordsOf}
+use Rattle.pair_judgement.specs.Reason.{lengthless}
+use Rattle.pair.specs.Pair.{answerOf, onReference, onJudged, onGood, recordsOf}
 use Rattle.group_frames.specs.Frame.{recordOf}
 use Rattle.group_verdicts.specs.declared.Verdict.{Verdict}
 use Rattle.group_verdicts.specs.declared.Verdict.the-variants.{Passed, Refused}
@@ -43,8 +45,12 @@ module _ (w : Strategies) (a b : List ℕ) (i j : ℕ) where
     where
       third : (y z : Layout) (k : Judged) → ofJudged k ≡ answered (onJudged w y z s k .answer)
       third y z (Judge.Refused r) = refl
-      third y z Judge.Apart = refl
-      third y z (Judge.Both p q) = shared-passes (shared y z (p .start) (q .start) a b)
+      third y z (Judge.Apart r) = refl
+      third y z (Judge.Both p q) = go (lengthless p q)
+        where
+          go : (t : Bool) → Passed ≡ answered (onReference w y z s (p .start) (q .start) t .answer)
+          go true = refl
+          go false = shared-passes (shared y z (p .start) (q .start) a b)
 
       second : (y : Layout) (k : Checked) → onSound k (λ z. ofJudged (judgedOf y z a b i j)) ≡ answered (onGood k s (λ z. onJudged w y z s (judgedOf y z a b i j)) .answer)
       second y (Good z) = third y z (judgedOf y z a b i j)

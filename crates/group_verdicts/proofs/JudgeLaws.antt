@@ -22,16 +22,16 @@ use Rattle.group_mates.proofs.OnceLaws.{mate-below}
 use Rattle.group_verdicts.specs.declared.Verdict.{Verdict}
 use Rattle.group_verdicts.specs.declared.Verdict.the-variants.{Passed, Refused}
 use Rattle.group_verdicts.specs.Judged.{onVerdict, judgeBy}
-use Rattle.group_verdicts.specs.Indexed.{ofJudged, indexedOf}
+use Rattle.group_verdicts.specs.Indexed.{ofSpan, ofJudged, indexedOf}
 
 -- ---- what two records cover
-pub first-refused : (u v u′ : Span) (r : Refusal) → u ≡ u′ → u ≡ Spans.Refused r → ofJudged (onSpan u (λ s. Judge.Apart)) ≡ ofJudged (onSpan u′ (λ s. onSpan v (λ t. Judge.Both s t)))
+pub first-refused : (u v u′ : Span) (r : Refusal) → u ≡ u′ → u ≡ Spans.Refused r → ofSpan u ≡ ofJudged (onSpan u′ (λ s. onSpan v (λ t. Judge.Both s t)))
 first-refused u v u′ r e f = rw (f, sym e ∙ f)
 
-pub second-decides : (u v u′ v′ : Span) (s : Extent) → u ≡ u′ → u ≡ Spans.Covers s → v ≡ v′ → ofJudged (onSpan v (λ t. Judge.Apart)) ≡ ofJudged (onSpan u′ (λ s. onSpan v′ (λ t. Judge.Both s t)))
+pub second-decides : (u v u′ v′ : Span) (s : Extent) → u ≡ u′ → u ≡ Spans.Covers s → v ≡ v′ → ofSpan v ≡ ofJudged (onSpan u′ (λ s. onSpan v′ (λ t. Judge.Both s t)))
 second-decides u v u′ v′ s e f g = rw (sym e ∙ f, sym g) (go v)
   where
-    go : (x : Span) → ofJudged (onSpan x (λ t. Judge.Apart)) ≡ ofJudged (onSpan x (λ t. Judge.Both s t))
+    go : (x : Span) → ofSpan x ≡ ofJudged (onSpan x (λ t. Judge.Both s t))
     go (Spans.Covers t) = refl
     go (Spans.Refused r) = refl
 

@@ -10,7 +10,7 @@ use lib.ListN.{length}
 use Rattle.refusal.specs.declared.Refusal.{Refusal}
 use Rattle.refusal.specs.declared.Refusal.the-variants.{RecordShort, RecordLong, NameAndOperations, BasesAndQualities, OperationCode, ReadTotal, ReferenceEnd}
 use Rattle.refusal.specs.declared.Row.{Row}
-use Rattle.refusal.specs.Table.{row, rowOf, numberOf, placeOf}
+use Rattle.refusal.specs.Table.{plain, rowOf, numberOf, placeOf, operationOf}
 use Rattle.fields.specs.declared.Layout.{Layout}
 use Rattle.fields.specs.declared.Position.{Position}
 use Rattle.fields.specs.declared.Position.the-variants.{At, Unplaced}
@@ -32,18 +32,22 @@ use Rattle.cigar.specs.Operation.{opsIn}
 use Rattle.cigar.specs.Judge.{walkOf, judged, operationsOf, extent, spanOf}
 use Rattle.positions.specs.Step.{State}
 use Rattle.pair_merge.specs.Shared.{shared}
+use Rattle.pair_judgement.specs.declared.Reason.{Reason}
+use Rattle.pair_judgement.specs.declared.Reason.the-variants.{Unmapped, ReferencesDiffer, NegativePosition, NoReferenceLength, NoSharedPosition}
 use Rattle.pair_judgement.specs.declared.Judged.{Judged}
 use Rattle.pair_judgement.specs.declared.Judged.the-variants as Judge
+use Rattle.pair_judgement.specs.Reason.{lengthless}
 use Rattle.pair_judgement.specs.Judgement.{onUses, onSpan, onPosition, spanIn, mappedOf, judgedOf}
 use Rattle.pair.specs.declared.Answer.{Answer}
 use Rattle.pair.specs.declared.Answer.the-variants as Answers
-use Rattle.pair.specs.Pair.{Outcome, answerOf, onJudged, onGood, recordsOf, pairOf}
+use Rattle.pair.specs.Pair.{Outcome, answerOf, onReference, onJudged, onGood, recordsOf, pairOf}
 use Rattle.group_verdicts.specs.Judged.{bothAt, pairAt, judgedAt, Named, apart, overlap, at-first, at-second}
 
 -- ---- one record, named by x and named by y
 -- r at x and q at y are one refusal
 record Same (x y : ℕ) (r q : Refusal) : Type 0 where
   number : numberOf q ≡ numberOf r
+  operation : operationOf q ≡ operationOf r
   was : placeOf r ≡ x
   is : placeOf q ≡ y
 
@@ -53,18 +57,19 @@ data Alike {A B : Type 0} (good : B → A) (bad : Refusal → A) (x y : ℕ) : A
   faulty : (r q : Refusal) → Same x y r q → Alike good bad x y (bad r) (bad q)
 
 module _ (x y : ℕ) where
-  -- a refusal that has one number n at all places
-  refused : {A B : Type 0} {good : B → A} {bad : Refusal → A} (f : ℕ → Refusal) (n : ℕ) → ((p : ℕ) → rowOf (f p) ≡ row n p)
+  -- a refusal that has one number n and one operation i at all places
+  refused : {A B : Type 0} {good : B → A} {bad : Refusal → A} (f : ℕ → Refusal) (n i : ℕ) → ((p : ℕ) → rowOf (f p) ≡ record { number = n; at = p; operation = i })
       → Alike good bad x y (bad (f x)) (bad (f y))
-  refused f n e =
+  refused f n i e =
       let number : (p : ℕ) → numberOf (f p) ≡ n = λ p. ap (λ (k : Row). k .number) (e p) in
       let at : (p : ℕ) → placeOf (f p) ≡ p = λ p. ap (λ (k : Row). k .at) (e p) in
-      faulty (f x) (f y) (record { number = number y ∙ sym (number x); was = at x; is = at y })
+      let operation : (p : ℕ) → operationOf (f p) ≡ i = λ p. ap (λ (k : Row). k .operation) (e p) in
+      faulty (f x) (f y) (record { number = number y ∙ sym (number x); operation = operation y ∙ sym (operation x); was = at x; is = at y })
 
   -- such a refusal where t says so; else the rest
-  refuses : {A B : Type 0} {good : B → A} {bad : Refusal → A} {a b : A} (t : Bool) (f : ℕ → Refusal) (n : ℕ) → ((p : ℕ) → rowOf (f p) ≡ row n p)
+  refuses : {A B : Type 0} {good : B → A} {bad : Refusal → A} {a b : A} (t : Bool) (f : ℕ → Refusal) (n : ℕ) → ((p : ℕ) → rowOf (f p) ≡ plain n p)
       → Alike good bad x y a b → Alike good bad x y (cond t (bad (f x)) a) (cond t (bad (f y)) b)
-  refuses true f n e rest = refused f n e
+  refuses true f n e rest = refused f n 0 e
   refuses false f n e rest = rest
 
   -- 1 to 4
@@ -80,7 +85,7 @@ module _ (x y : ℕ) where
   -- 5 and 7
   judged-alike : (count n : ℕ) (k : Walk) → Alike Ops.Uses Ops.Refused x y (judged count n x k) (judged count n y k)
   judged-alike count n (Totals read reference) = refuses (ltb 0 count && ltb 0 n && not (eqb read count)) ReadTotal 7 (λ p. refl) (fine reference)
-  judged-alike count n UnknownCode = refused OperationCode 5 (λ p. refl)
+  judged-alike count n (UnknownCode i) = refused (λ p. OperationCode p i) 5 i (λ p. refl)
 
   -- 8
   end-alike : (pos n : ℕ) → Alike Spans.Covers Spans.Refused x y (spanOf pos n x) (spanOf pos n y)
@@ -101,7 +106,7 @@ module _ (x y : ℕ) where
 module _ (i j : ℕ) where
   -- two judgements: the same; or both refuse the first, or both the second
   data Judges : Judged → Judged → Type 0 where
-    placeless : Judges Judge.Apart Judge.Apart
+    placeless : (r : Reason) → Judges (Judge.Apart r) (Judge.Apart r)
     both : (p q : Extent) → Judges (Judge.Both p q) (Judge.Both p q)
     of-first : (r q : Refusal) → Same 1 i r q → Judges (Judge.Refused r) (Judge.Refused q)
     of-second : (r q : Refusal) → Same 2 j r q → Judges (Judge.Refused r) (Judge.Refused q)
@@ -119,21 +124,21 @@ module _ (i j : ℕ) where
   mapped-judge y z a b = go (sameId (header a .refId) (header b .refId)) (positionOf (header a .pos)) (positionOf (header b .pos))
     where
       by : Bool → Position → Position → ℕ → ℕ → Judged
-      by t u v m n = cond t (onPosition u (λ p. onPosition v (λ q. onSpan (spanIn y a p m) (λ s. onSpan (spanIn z b q n) (λ t. Judge.Both s t))))) Judge.Apart
+      by t u v m n = cond t (onPosition u (λ p. onPosition v (λ q. onSpan (spanIn y a p m) (λ s. onSpan (spanIn z b q n) (λ t. Judge.Both s t))))) (Judge.Apart ReferencesDiffer)
 
       go : (t : Bool) (u v : Position) → Judges (by t u v 1 2) (by t u v i j)
       go true (At p) (At q) = spans-judge _ _ _ _ (span-alike 1 i y a p) (span-alike 2 j z b q)
-      go true (At p) Unplaced = placeless
-      go true Unplaced v = placeless
-      go false u v = placeless
+      go true (At p) Unplaced = placeless NegativePosition
+      go true Unplaced v = placeless NegativePosition
+      go false u v = placeless ReferencesDiffer
 
   -- steps 4 to 7
   judged-judge : (y z : Layout) (a b : List ℕ) → Judges (judgedOf y z a b 1 2) (judgedOf y z a b i j)
   unfolding judgedOf
   judged-judge y z a b = go (hasBit (header a .flags) unmapped || hasBit (header b .flags) unmapped)
     where
-      go : (t : Bool) → Judges (cond t Judge.Apart (mappedOf y z a b 1 2)) (cond t Judge.Apart (mappedOf y z a b i j))
-      go true = placeless
+      go : (t : Bool) → Judges (cond t (Judge.Apart Unmapped) (mappedOf y z a b 1 2)) (cond t (Judge.Apart Unmapped) (mappedOf y z a b i j))
+      go true = placeless Unmapped
       go false = mapped-judge y z a b
 
   -- steps 3 to 9
@@ -142,27 +147,32 @@ module _ (i j : ℕ) where
   records-named w s = one _ _ (check-alike 1 i (s .first))
     where
       shared-named : (l : List (ℕ × ℕ)) → Named i j (answerOf l) (answerOf l)
-      shared-named [] = apart
+      shared-named [] = apart NoSharedPosition
       shared-named (e ∷ l) = overlap
 
+      both-named : (p q : Extent) (y z : Layout) (t : Bool)
+          → Named i j (onReference w y z s (p .start) (q .start) t .answer) (onReference w y z s (p .start) (q .start) t .answer)
+      both-named p q y z true = apart NoReferenceLength
+      both-named p q y z false = shared-named (shared y z (p .start) (q .start) (s .first) (s .second))
+
       judged-named : (y z : Layout) (k k′ : Judged) → Judges k k′ → Named i j (onJudged w y z s k .answer) (onJudged w y z s k′ .answer)
-      judged-named y z k k′ placeless = apart
-      judged-named y z k k′ (both p q) = shared-named (shared y z (p .start) (q .start) (s .first) (s .second))
-      judged-named y z k k′ (of-first r q h) = at-first r q (h .number) (h .was) (h .is)
-      judged-named y z k k′ (of-second r q h) = at-second r q (h .number) (h .was) (h .is)
+      judged-named y z k k′ (placeless r) = apart r
+      judged-named y z k k′ (both p q) = both-named p q y z (lengthless p q)
+      judged-named y z k k′ (of-first r q h) = at-first r q (h .number) (h .operation) (h .was) (h .is)
+      judged-named y z k k′ (of-second r q h) = at-second r q (h .number) (h .operation) (h .was) (h .is)
 
       rest : Layout → Layout → ℕ → ℕ → Outcome
       rest y z m n = onJudged w y z s (judgedOf y z (s .first) (s .second) m n)
 
       two : (y : Layout) (k k′ : Checked) → Alike Good Bad 2 j k k′ → Named i j (onGood k s (λ z. rest y z 1 2) .answer) (onGood k′ s (λ z. rest y z i j) .answer)
       two y k k′ (fine z) = judged-named y z _ _ (judged-judge y z (s .first) (s .second))
-      two y k k′ (faulty r q h) = at-second r q (h .number) (h .was) (h .is)
+      two y k k′ (faulty r q h) = at-second r q (h .number) (h .operation) (h .was) (h .is)
 
       one : (k k′ : Checked) → Alike Good Bad 1 i k k′
           → Named i j (onGood k s (λ y. onGood (checkOf (s .second) 2) s (λ z. rest y z 1 2)) .answer)
           (onGood k′ s (λ y. onGood (checkOf (s .second) j) s (λ z. rest y z i j)) .answer)
       one k k′ (fine y) = two y _ _ (check-alike 2 j (s .second))
-      one k k′ (faulty r q h) = at-first r q (h .number) (h .was) (h .is)
+      one k k′ (faulty r q h) = at-first r q (h .number) (h .operation) (h .was) (h .is)
 
 -- ---- records i and j of the group s
 module _ (w : Strategies) (s : List ℕ) (i j : ℕ) where
@@ -176,17 +186,17 @@ module _ (w : Strategies) (s : List ℕ) (i j : ℕ) where
   judged-called q e = go _ _ named e
     where
       go : (a b : Answer) → Named i j a b → b ≡ Answers.Refused q → (r : Refusal) × (a ≡ Answers.Refused r)
-      go a b apart f = let z : _≡_ {A = ℕ} 0 1 = cc in absurd (omega arith)
+      go a b (apart x) f = let z : _≡_ {A = ℕ} 0 1 = cc in absurd (omega arith)
       go a b overlap f = let z : _≡_ {A = ℕ} 0 1 = cc in absurd (omega arith)
-      go a b (at-first r p n x y) f = (r, refl)
-      go a b (at-second r p n x y) f = (r, refl)
+      go a b (at-first r p n o x y) f = (r, refl)
+      go a b (at-second r p n o x y) f = (r, refl)
 
   -- where the pair call refuses them, so does the group
   pub called-judged : (r : Refusal) → pairAt w s i j .answer ≡ Answers.Refused r → (q : Refusal) × (judgedAt w s i j ≡ Answers.Refused q)
   called-judged r e = go _ _ named e
     where
       go : (a b : Answer) → Named i j a b → a ≡ Answers.Refused r → (q : Refusal) × (b ≡ Answers.Refused q)
-      go a b apart f = let z : _≡_ {A = ℕ} 0 1 = cc in absurd (omega arith)
+      go a b (apart x) f = let z : _≡_ {A = ℕ} 0 1 = cc in absurd (omega arith)
       go a b overlap f = let z : _≡_ {A = ℕ} 0 1 = cc in absurd (omega arith)
-      go a b (at-first p q n x y) f = (q, refl)
-      go a b (at-second p q n x y) f = (q, refl)
+      go a b (at-first p q n o x y) f = (q, refl)
+      go a b (at-second p q n o x y) f = (q, refl)

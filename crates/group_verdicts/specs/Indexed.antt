@@ -5,6 +5,8 @@ use Rattle.fields.specs.declared.Layout.{Layout}
 use Rattle.fields.specs.declared.Checked.{Checked}
 use Rattle.fields.specs.declared.Checked.the-variants.{Good, Bad}
 use Rattle.fields.specs.Check.{checkOf}
+use Rattle.cigar.specs.declared.Span.{Span}
+use Rattle.cigar.specs.declared.Span.the-variants as Spans
 use Rattle.pair_judgement.specs.declared.Judged.{Judged}
 use Rattle.pair_judgement.specs.declared.Judged.the-variants as Judge
 use Rattle.pair_judgement.specs.Judgement.{judgedOf}
@@ -16,9 +18,13 @@ abbrev pub onSound : Checked → (Layout → Verdict) → Verdict
 onSound (Good y) rest = rest y
 onSound (Bad r) rest = Refused r
 
+abbrev pub ofSpan : Span → Verdict
+ofSpan (Spans.Covers e) = Passed
+ofSpan (Spans.Refused r) = Refused r
+
 abbrev pub ofJudged : Judged → Verdict
 ofJudged (Judge.Refused r) = Refused r
-ofJudged Judge.Apart = Passed
+ofJudged (Judge.Apart r) = Passed
 ofJudged (Judge.Both p q) = Passed
 
 unfoldable pub indexedOf : List ℕ → List ℕ → ℕ → ℕ → Verdict

@@ -3,10 +3,11 @@ use Prim.Native.Nat.{ℕ}
 use mathlib.Core.Path.{_≡_}
 use mathlib.Core.List.{List, [], _∷_}
 use Rattle.refusal.specs.declared.Refusal.{Refusal}
-use Rattle.refusal.specs.Table.{numberOf, placeOf}
+use Rattle.refusal.specs.Table.{numberOf, placeOf, operationOf}
 use Rattle.stats.specs.Counts.{zeroed}
 use Rattle.strategy.specs.declared.Strategies.{Strategies}
 use Rattle.positions.specs.Step.{State, state}
+use Rattle.pair_judgement.specs.declared.Reason.{Reason}
 use Rattle.pair.specs.declared.Answer.{Answer}
 use Rattle.pair.specs.declared.Answer.the-variants as Answers
 use Rattle.pair.specs.Pair.{Outcome, recordsOf, pairOf}
@@ -26,15 +27,15 @@ pairAt w s i j = pairOf w (bothAt s i j)
 abbrev pub judgedAt : Strategies → List ℕ → ℕ → ℕ → Answer
 judgedAt w s i j = recordsOf w (bothAt s i j) i j .answer
 
--- an answer of the pair call, and how the group has it: the same; or a refusal of that number, at i for record 1 and at j for record 2
+-- an answer of the pair call, and how the group has it: the same; or a refusal of that number and operation, at i for record 1 and at j for record 2
 pub data Named (i j : ℕ) : Answer → Answer → Type 0 where
-  apart : Named i j Answers.NoOverlap Answers.NoOverlap
+  apart : (r : Reason) → Named i j (Answers.NoOverlap r) (Answers.NoOverlap r)
   overlap : Named i j Answers.Overlap Answers.Overlap
-  at-first : (r q : Refusal) → numberOf q ≡ numberOf r → placeOf r ≡ 1 → placeOf q ≡ i → Named i j (Answers.Refused r) (Answers.Refused q)
-  at-second : (r q : Refusal) → numberOf q ≡ numberOf r → placeOf r ≡ 2 → placeOf q ≡ j → Named i j (Answers.Refused r) (Answers.Refused q)
+  at-first : (r q : Refusal) → numberOf q ≡ numberOf r → operationOf q ≡ operationOf r → placeOf r ≡ 1 → placeOf q ≡ i → Named i j (Answers.Refused r) (Answers.Refused q)
+  at-second : (r q : Refusal) → numberOf q ≡ numberOf r → operationOf q ≡ operationOf r → placeOf r ≡ 2 → placeOf q ≡ j → Named i j (Answers.Refused r) (Answers.Refused q)
 
 abbrev pub answered : Answer → Verdict
-answered Answers.NoOverlap = Passed
+answered (Answers.NoOverlap r) = Passed
 answered Answers.Overlap = Passed
 answered (Answers.Refused r) = Refused r
 

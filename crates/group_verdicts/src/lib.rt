@@ -14,7 +14,7 @@ ghost use Rattle.pair_judgement.specs.Judgement.{onSpan, spanIn};
 ghost use Rattle.group_frames.specs.Table.{FrameTable};
 ghost use Rattle.group_mates.specs.Register.{pairsOf};
 ghost use Rattle.group_mates.specs.Table.{Mated};
-ghost use Rattle.group_verdicts.specs.Indexed.{ofJudged, indexedOf, indexedAt};
+ghost use Rattle.group_verdicts.specs.Indexed.{ofSpan, ofJudged, indexedOf, indexedAt};
 ghost use Rattle.group_verdicts.specs.Judged.{judgeBy};
 
 // Whether pairs may be treated, or the refusal of the first that may not.
@@ -25,7 +25,7 @@ pub enum Verdict {
 
 // What one record covers, as the verdict on its pair.
 fn spanned(p: Span) -> Verdict
-    ensures { λ r. ⌜ r ≡ ofJudged (onSpan p (λ (s : Extent). Judged.Apart)) ⌝ }
+    ensures { λ r. ⌜ r ≡ ofSpan p ⌝ }
 {
     match p {
         Span::Covers(_) => Verdict::Passed,

@@ -20,7 +20,7 @@ fn say_next(text: &[u8], n: u64) {
 
 fn say_answer(answer: Answer) {
     match answer {
-        Answer::NoOverlap => say(b": no overlap"),
+        Answer::NoOverlap(r) => say_next(b": no overlap, reason ", r.number() as u64),
         Answer::Overlap => say(b": overlap"),
         Answer::Refused(r) => {
             say_next(b": refusal ", r.number() as u64);
@@ -261,6 +261,16 @@ fn zeros() {
     meet(2147483642, b"4M0M1N", 4, 2147483642, b"4M", 4);
 }
 
+// An alignment that uses nothing of the reference, and ones that use some and share no position.
+fn lengths() {
+    meet(9, b"4S", 4, 9, b"4M", 4);
+    meet(9, b"4M", 4, 9, b"2S2I", 4);
+    meet(9, b"4S1D", 4, 9, b"4M", 4);
+    meet(9, b"4M", 4, 9, b"4I1N", 4);
+    meet(9, b"4S", 3, 9, b"4M", 4);
+    meet(9, b"4S", 4, 9, b"4M", 3);
+}
+
 // Two statistics with these counts of overlapping positions, as one.
 fn merge(a: u64, b: u64) {
     let first = CorrectionStats {
@@ -289,6 +299,7 @@ fn main() {
     treated();
     placed();
     zeros();
+    lengths();
     bare(0, 0);
     bare(1, 0);
     bare(0, 1);

@@ -95,7 +95,7 @@ fn say_refusal(r: Refusal) {
 
 fn say_answer(answer: Answer) {
     match answer {
-        Answer::NoOverlap => say(b": no overlap"),
+        Answer::NoOverlap(r) => say_next(b": no overlap, reason ", r.number() as u64),
         Answer::Overlap => say(b": overlap"),
         Answer::Refused(r) => say_refusal(r),
     }

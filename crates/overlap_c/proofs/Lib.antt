@@ -1,1 +1,2 @@
+pub mod ReasonCallLaws
 pub mod FiledCallLaws

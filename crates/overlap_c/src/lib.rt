@@ -4,6 +4,7 @@ use filed_raw::Filing;
 use refusal::Refusal;
 ghost use mathlib.Core.Path.{_≡_};
 ghost use Rattle.pair_code.specs.Call.{returned, callOf};
+ghost use Rattle.pair_reason.specs.Reason.{reasonCallOf};
 ghost use Rattle.overlap_c.specs.FiledCall.{filedReturned, filedCallOf, trailerReturned, trailerCallOf};
 
 // How many bytes the four counts take.
@@ -22,6 +23,15 @@ pub extern "C" fn overlap_call(
     ensures { λ r. ⌜ returned r (now (first .exit)) (now (second .exit)) (now (counts .exit)) ≡ callOf (now (first .entry)) (now (second .entry)) agreement disagreement (now (counts .entry)) ⌝ }
 {
     pair_code::call(first, second, agreement, disagreement, counts)
+}
+
+// Why two records do not overlap, which are only read. It answers 0 where they overlap, 1 to 5 for the
+// reason, else 1000 + 100 * place + number, with 10,000 times the index of an operation of unknown code.
+#[no_mangle]
+pub extern "C" fn overlap_reason_call(first: &[u8], second: &[u8]) -> u32
+    ensures { λ r. ⌜ r ≡ reasonCallOf (now (first .entry)) (now (second .entry)) ⌝ }
+{
+    pair_reason::call(first, second)
 }
 
 // The call on a filed group, and the four counts as 32 bytes. It answers 0 where the group was corrected

@@ -1,35 +1,39 @@
 -- Two records that were judged and not refused: what treating them gives is what the call gives.
 use Prim.Native.Nat.{ℕ, zero, suc, _+_}
-use mathlib.Core.Path.{_≡_, refl, ap, ap₂, _∙_}
+use mathlib.Core.Path.{_≡_, refl, sym, ap, ap₂, _∙_}
 use mathlib.Core.List.{List, [], _∷_}
-use mathlib.Core.Bool.{false}
+use mathlib.Core.Bool.{Bool, true, false}
 use lib.ListN.{length}
 use Rattle.fields.specs.declared.Layout.{Layout}
 use Rattle.fields.specs.Layout.{layoutOf}
 use Rattle.fields.proofs.CheckLaws.{sound-good}
 use Rattle.stats.specs.Counts.{full}
 use Rattle.strategy.specs.declared.Strategies.{Strategies}
-use Rattle.positions.specs.Step.{State}
+use Rattle.positions.specs.Step.{State, job}
 use Rattle.pair_merge.specs.Shared.{shared}
+use Rattle.pair_judgement.specs.declared.Reason.{Reason}
+use Rattle.pair_judgement.specs.declared.Reason.the-variants.{NoReferenceLength, NoSharedPosition}
 use Rattle.pair_judgement.specs.declared.Judged.{Judged}
 use Rattle.pair_judgement.specs.declared.Judged.the-variants as Judge
 use Rattle.pair_judgement.specs.declared.Where.{Where}
 use Rattle.pair_judgement.specs.declared.Where.the-variants.{Apart, On}
 use Rattle.pair_judgement.specs.Judgement.{judgedOf}
+use Rattle.pair_judgement.specs.Reason.{lengthless}
 use Rattle.pair_judgement.specs.Where.{whereOf}
-use Rattle.pair_judgement.specs.Ready.{Cleared, TreatedAt}
-use Rattle.pair_judgement.proofs.ClearedLaws.{starts, cleared-apart, cleared-on}
+use Rattle.pair_judgement.specs.Ready.{TreatedTo, Cleared, TreatedAt}
+use Rattle.pair_judgement.proofs.ClearedLaws.{starts, Covered, cleared-apart, cleared-on}
+use Rattle.pair_judgement.proofs.TreatLaws.{none-reached, nothing-shared}
 use Rattle.pair.specs.declared.Answer.{Answer}
 use Rattle.pair.specs.declared.Answer.the-variants as Answers
-use Rattle.pair.specs.Pair.{outcome, answerOf, onJudged, pairOf}
+use Rattle.pair.specs.Pair.{outcome, answerOf, onReference, onJudged, pairOf}
 use Rattle.pair.proofs.CallLaws.{call-judged}
 
--- the answer where so many positions are shared
-abbrev pub metAnswer : ℕ → Answer
-metAnswer zero = Answers.NoOverlap
-metAnswer (suc n) = Answers.Overlap
+-- the answer where so many positions are shared, with a reason for none
+abbrev pub metAnswer : Reason → ℕ → Answer
+metAnswer r zero = Answers.NoOverlap r
+metAnswer r (suc n) = Answers.Overlap
 
-met-answer : (l : List (ℕ × ℕ)) → metAnswer (length l) ≡ answerOf l
+met-answer : (l : List (ℕ × ℕ)) → metAnswer NoSharedPosition (length l) ≡ answerOf l
 met-answer [] = refl
 met-answer (e ∷ l) = refl
 
@@ -44,12 +48,23 @@ module _ (w : Strategies) (s : State) (room : full (s .stats) ≡ false) (k : Cl
   judged-as j e = call-judged w s room y (sound-good _ _ (k .first) 1) z _ j (sound-good _ _ (k .second) 2) refl e
 
   -- n positions are met, and u is what is there after it
-  pub cleared-called : (u : State) (n : ℕ) → TreatedAt (whereOf (s .first) (s .second)) w s u n → outcome (metAnswer n) u ≡ pairOf w s
+  pub cleared-called : (u : State) (n : ℕ) → TreatedAt (whereOf (s .first) (s .second)) w s u n → (r : Reason) × (outcome (metAnswer r n) u ≡ pairOf w s)
   cleared-called u n t = go (whereOf (s .first) (s .second)) refl t
     where
-      go : (x : Where) → whereOf (s .first) (s .second) ≡ x → TreatedAt x w s u n → outcome (metAnswer n) u ≡ pairOf w s
-      go Apart e h = ap₂ (λ (m : ℕ) (v : State). outcome (metAnswer m) v) (h .1) (h .0) ∙ judged-as Judge.Apart (cleared-apart _ _ e 1 2)
+      on : (p q : ℕ) (c : Covered (s .first) (s .second) p q) (h : TreatedTo (job w y z) (record { 0 = p + 1 }) (record { 0 = q + 1 }) s u n) (b : Bool) → lengthless (c .extent₁) (c .extent₂) ≡ b
+          → onReference w y z s (c .extent₁ .start) (c .extent₂ .start) b ≡ pairOf w s → (x : Reason) × (outcome (metAnswer x n) u ≡ pairOf w s)
+      on p q c h true b j =
+          let l = none-reached y z (record { 0 = p + 1 }) (record { 0 = q + 1 }) (s .first) (s .second) (c .extent₁) (c .extent₂) (c .span₁) (c .span₂) b in
+          let e : u ≡ s = h .after ∙ sym (nothing-shared (job w y z) (record { 0 = p + 1 }) (record { 0 = q + 1 }) s l) in
+          (NoReferenceLength, ap₂ (λ (m : ℕ) (v : State). outcome (metAnswer NoReferenceLength m) v) (h .counted ∙ ap length l) e ∙ j)
+      on p q c h false b j = (
+        NoSharedPosition,
+        ap₂ outcome (ap (metAnswer NoSharedPosition) (h .counted) ∙ met-answer (shared y z (record { 0 = p + 1 }) (record { 0 = q + 1 }) (s .first) (s .second))) (h .after)
+            ∙ (rw (starts (c .extent₁ .start) p (c .span₁ .first), starts (c .extent₂ .start) q (c .span₂ .first)) at j),
+      )
+
+      go : (x : Where) → whereOf (s .first) (s .second) ≡ x → TreatedAt x w s u n → (r : Reason) × (outcome (metAnswer r n) u ≡ pairOf w s)
+      go (Apart r) e h = (r, ap₂ (λ (m : ℕ) (v : State). outcome (metAnswer r m) v) (h .1) (h .0) ∙ judged-as (Judge.Apart r) (cleared-apart _ _ r e 1 2))
       go (On p q) e h =
           let c = cleared-on (s .first) (s .second) p q k e in
-          ap₂ outcome (ap metAnswer (h .counted) ∙ met-answer (shared y z (record { 0 = p + 1 }) (record { 0 = q + 1 }) (s .first) (s .second))) (h .after)
-          ∙ (rw (starts (c .extent₁ .start) p (c .span₁ .first), starts (c .extent₂ .start) q (c .span₂ .first)) at (judged-as (Judge.Both (c .extent₁) (c .extent₂)) (c .judged 1 2)))
+          on p q c h (lengthless (c .extent₁) (c .extent₂)) refl (judged-as (Judge.Both (c .extent₁) (c .extent₂)) (c .judged 1 2))

@@ -1,5 +1,6 @@
 pub mod CallLaws
 pub mod ClearedLaws
 pub mod PromiseLaws
+pub mod ReasonLaws
 pub mod MeetLaws
 pub mod Worked

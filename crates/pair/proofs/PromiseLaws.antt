@@ -33,14 +33,18 @@ use Rattle.pair_merge.specs.Shared.{shared, merged}
 use Rattle.pair_merge.specs.Promise.{Share, Names, Bytes}
 use Rattle.pair_merge.proofs.PromiseLaws.{shared-names, promised}
 use Rattle.pair_merge.proofs.UniqueLaws.{one-outcome}
+use Rattle.pair_judgement.specs.declared.Reason.{Reason}
+use Rattle.pair_judgement.specs.declared.Reason.the-variants.{Unmapped, ReferencesDiffer, NegativePosition, NoReferenceLength, NoSharedPosition}
 use Rattle.pair_judgement.specs.declared.Judged.{Judged}
 use Rattle.pair_judgement.specs.declared.Judged.the-variants as Judge
 use Rattle.pair.specs.declared.Answer.{Answer}
 use Rattle.pair.specs.declared.Answer.the-variants as Answers
 use Rattle.pair_judgement.specs.Judgement.{onSpan, spanIn, mappedOf, judgedOf}
-use Rattle.pair.specs.Pair.{Outcome, outcome, answerOf, onJudged, onGood, recordsOf, pairOf}
-use Rattle.pair.specs.Promise.{NotRefused, Aligned, fromOne, Overlaps, Kept}
-use Rattle.pair_judgement.proofs.TreatLaws.{spanned, both-known, nothing-shared}
+use Rattle.pair_judgement.specs.Reason.{lengthless}
+use Rattle.pair.specs.Pair.{Outcome, outcome, answerOf, onReference, onJudged, onGood, recordsOf, pairOf}
+use Rattle.pair.specs.Promise.{NotRefused, NoOverlap, Aligned, fromOne, Overlaps, Kept}
+use Rattle.pair.specs.Reasons.{Reasoned}
+use Rattle.pair_judgement.proofs.TreatLaws.{spanned, both-known, none-reached, nothing-shared}
 
 -- ---- a refusal, or "no overlap", leaves all as it was
 answer-of : (a b : Outcome) → a ≡ b → a .answer ≡ b .answer
@@ -56,12 +60,16 @@ Quiet s o = (o .after ≡ s) ⊎ (o .answer ≡ Answers.Overlap)
 quiet-judged : (w : Strategies) (y z : Layout) (s : State) (j : Judged) → Quiet s (onJudged w y z s j)
 unfolding Quiet
 quiet-judged w y z s (Judge.Refused r) = inl refl
-quiet-judged w y z s Judge.Apart = inl refl
-quiet-judged w y z s (Judge.Both p q) = go (shared y z (p .start) (q .start) (s .first) (s .second)) refl
+quiet-judged w y z s (Judge.Apart r) = inl refl
+quiet-judged w y z s (Judge.Both p q) = by-length (lengthless p q)
   where
     go : (l : List (ℕ × ℕ)) → shared y z (p .start) (q .start) (s .first) (s .second) ≡ l → (merged (job w y z) (p .start) (q .start) s ≡ s) ⊎ (answerOf l ≡ Answers.Overlap)
     go [] e = inl (sym (nothing-shared (job w y z) (p .start) (q .start) s e))
     go (x ∷ l) e = inr refl
+
+    by-length : (t : Bool) → Quiet s (onReference w y z s (p .start) (q .start) t)
+    by-length true = inl refl
+    by-length false = go (shared y z (p .start) (q .start) (s .first) (s .second)) refl
 
 quiet-good : (k : Checked) (s : State) (f : Layout → Outcome) → ((y : Layout) → Quiet s (f y)) → Quiet s (onGood k s f)
 unfolding Quiet
@@ -83,9 +91,9 @@ refused-keeps w s u r e =
     (λ h. let z : _≡_ {A = ℕ} 0 1 = cc (answer-of _ _ e) in absurd (omega arith))
     (quiet w s)
 
-pub apart-keeps : (w : Strategies) (s u : State) → pairOf w s ≡ outcome Answers.NoOverlap u → u ≡ s
+pub apart-keeps : (w : Strategies) (s u : State) (r : Reason) → pairOf w s ≡ outcome (Answers.NoOverlap r) u → u ≡ s
 unfolding Quiet
-apart-keeps w s u e =
+apart-keeps w s u r e =
     ⊎-elim (λ h. sym (after-of _ _ e) ∙ h)
     (λ h. let z : _≡_ {A = ℕ} 0 1 = cc (answer-of _ _ e) in absurd (omega arith))
     (quiet w s)
@@ -126,7 +134,7 @@ passed w s o e n = on-full (full (s .stats)) e
     on-full true h = absurd (n Count (sym (answer-of _ _ h)))
     on-full false h = on-records (checkOf (s .first) 1) refl h
 
--- ---- aligned records are refused by their operations or placed, and never apart
+-- ---- aligned records are refused by their operations or placed, and never apart for what their headers say
 placed-at : (z : ℤ) (n : ℕ) → z ≡ pos n → positionOf z ≡ At n
 placed-at z n e = ap positionOf e
 
@@ -144,31 +152,44 @@ module _ (w : Strategies) (s : State) where
   abbrev z : Layout
   z = layoutOf (s .second)
 
-  some-position : (p q : RefPos) (l : List (ℕ × ℕ)) → Names y z p q s l → answerOf l ≡ Answers.Overlap → (i : ReadOffset) × ((j : ReadOffset) × Share y z p q s i j)
+  -- what is said of two records that share the positions l: "no overlap", for whatever reason, where there is none
+  data Says : List (ℕ × ℕ) → Answer → Type 0 where
+    none-said : (r : Reason) → Says [] (Answers.NoOverlap r)
+    some-said : (x : ℕ × ℕ) (l : List (ℕ × ℕ)) → Says (x ∷ l) Answers.Overlap
+
+  says-answer : (l : List (ℕ × ℕ)) → Says l (answerOf l)
+  says-answer [] = none-said NoSharedPosition
+  says-answer (x ∷ l) = some-said x l
+
+  abbrev Some : RefPos → RefPos → Type 0
+  Some p q = (i : ReadOffset) × ((j : ReadOffset) × Share y z p q s i j)
+
+  some-position : (p q : RefPos) (l : List (ℕ × ℕ)) (r : Answer) → Names y z p q s l → Says l r → r ≡ Answers.Overlap → Some p q
   unfolding Among
-  some-position p q [] n e = let x : _≡_ {A = ℕ} 0 1 = cc in absurd (omega arith)
-  some-position p q (x ∷ l) n e = (inRead (x .0), (inRead (x .1), n .only (inRead (x .0)) (inRead (x .1)) (inl (refl, refl))))
+  some-position p q l r n (none-said x) e = let h : _≡_ {A = ℕ} 0 1 = cc in absurd (omega arith)
+  some-position p q l r n (some-said x m) e = (inRead (x .0), (inRead (x .1), n .only (inRead (x .0)) (inRead (x .1)) (inl (refl, refl))))
 
-  answered : (p q : RefPos) (l : List (ℕ × ℕ)) → Names y z p q s l → (i : ReadOffset) × ((j : ReadOffset) × Share y z p q s i j) → answerOf l ≡ Answers.Overlap
+  answered : (p q : RefPos) (l : List (ℕ × ℕ)) (r : Answer) → Names y z p q s l → Says l r → Some p q → r ≡ Answers.Overlap
   unfolding Among
-  answered p q [] n h = absurd (n .all (h .0) (h .1 .0) (h .1 .1))
-  answered p q (x ∷ l) n h = refl
+  answered p q l r n (none-said x) h = absurd (n .all (h .0) (h .1 .0) (h .1 .1))
+  answered p q l r n (some-said x m) h = refl
 
-  none-shared : (p q : RefPos) (l : List (ℕ × ℕ)) → Names y z p q s l → ((i : ReadOffset) × ((j : ReadOffset) × Share y z p q s i j) → ⊥) → answerOf l ≡ Answers.NoOverlap
-  none-shared p q [] n h = refl
-  none-shared p q (x ∷ l) n h = absurd (h (some-position p q (x ∷ l) n refl))
+  none-shared : (p q : RefPos) (l : List (ℕ × ℕ)) (r : Answer) → Names y z p q s l → Says l r → (Some p q → ⊥) → (x : Reason) × (r ≡ Answers.NoOverlap x)
+  none-shared p q l r n (none-said x) h = (x, refl)
+  none-shared p q l r n (some-said x m) h = absurd (h (some-position p q (x ∷ m) Answers.Overlap n (some-said x m) refl))
 
-  not-both : (r : Answer) → r ≡ Answers.NoOverlap → r ≡ Answers.Overlap → ⊥
-  not-both r e f = let x : _≡_ {A = ℕ} 0 1 = cc in omega arith
+  not-both : (r : Answer) (x : Reason) → r ≡ Answers.NoOverlap x → r ≡ Answers.Overlap → ⊥
+  not-both r x e f = let h : _≡_ {A = ℕ} 0 1 = cc in omega arith
 
   -- the outcome of two records that start at p and q, counted from 0
-  kept-at : (p q : ℕ) → Sound (s .first) y → Sound (s .second) z → Kept w s (outcome (answerOf (shared y z (fromOne p) (fromOne q) (s .first) (s .second))) (merged (job w y z) (fromOne p) (fromOne q) s)) p q
-  kept-at p q g h =
+  kept-at : (p q : ℕ) (r : Answer) → Sound (s .first) y → Sound (s .second) z → Says (shared y z (fromOne p) (fromOne q) (s .first) (s .second)) r
+      → Kept w s (outcome r (merged (job w y z) (fromOne p) (fromOne q) s)) p q
+  kept-at p q r g h says =
       let l = shared y z (fromOne p) (fromOne q) (s .first) (s .second) in
       let n = shared-names w y z (fromOne p) (fromOne q) s in
       record {
-        overlap = ((λ e. some-position (fromOne p) (fromOne q) l n e), λ o. answered (fromOne p) (fromOne q) l n o);
-        apart = ((λ e o. not-both _ e (answered (fromOne p) (fromOne q) l n o)), λ o. none-shared (fromOne p) (fromOne q) l n o);
+        overlap = ((λ e. some-position (fromOne p) (fromOne q) l r n says e), λ o. answered (fromOne p) (fromOne q) l r n says o);
+        apart = ((λ e o. not-both r (e .0) (e .1) (answered (fromOne p) (fromOne q) l r n says o)), λ o. none-shared (fromOne p) (fromOne q) l r n says o);
         corrected = promised w y z (fromOne p) (fromOne q) s (record { first = g .lies; second = h .lies });
       }
 
@@ -183,10 +204,23 @@ module _ (w : Strategies) (s : State) where
 
       second-span : (x : Extent) → Sound (s .first) y → Sound (s .second) z → spanIn y (s .first) (al .pos₁) 1 ≡ Spans.Covers x → (v : Span) → spanIn z (s .second) (al .pos₂) 2 ≡ v
           → onJudged w y z s (onSpan v (λ t. Judge.Both x t)) ≡ o → Kept w s o (al .pos₁) (al .pos₂)
-      second-span x g h f (Spans.Covers t) k i =
-          let a = starts (al .pos₁) (x .start) (spanned y (s .first) (al .pos₁) 1 x f .first) in
-          let b = starts (al .pos₂) (t .start) (spanned z (s .second) (al .pos₂) 2 t k .first) in
-          subst (λ (u : Outcome). Kept w s u (al .pos₁) (al .pos₂)) ((rw (a, b) at i)) (kept-at (al .pos₁) (al .pos₂) g h)
+      second-span x g h f (Spans.Covers t) k i = by-length (lengthless x t) refl i
+        where
+          l : List (ℕ × ℕ)
+          l = shared y z (fromOne (al .pos₁)) (fromOne (al .pos₂)) (s .first) (s .second)
+
+          by-length : (c : Bool) → lengthless x t ≡ c
+              → onReference w y z s (x .start) (t .start) c ≡ o → Kept w s o (al .pos₁) (al .pos₂)
+          by-length true c j =
+              let e = none-reached y z (fromOne (al .pos₁)) (fromOne (al .pos₂)) (s .first) (s .second) x t (spanned y _ _ 1 x f) (spanned z _ _ 2 t k) c in
+              let u = nothing-shared (job w y z) (fromOne (al .pos₁)) (fromOne (al .pos₂)) s e in
+              subst (λ (v : Outcome). Kept w s v (al .pos₁) (al .pos₂)) (ap (outcome (Answers.NoOverlap NoReferenceLength)) (sym u) ∙ j)
+              (kept-at (al .pos₁) (al .pos₂) (Answers.NoOverlap NoReferenceLength) g h (rw e (none-said NoReferenceLength)))
+          by-length false c j =
+              let a = starts (al .pos₁) (x .start) (spanned y (s .first) (al .pos₁) 1 x f .first) in
+              let b = starts (al .pos₂) (t .start) (spanned z (s .second) (al .pos₂) 2 t k .first) in
+              subst (λ (u : Outcome). Kept w s u (al .pos₁) (al .pos₂)) (rw (a, b) at j)
+              (kept-at (al .pos₁) (al .pos₂) (answerOf l) g h (says-answer l))
       second-span x g h f (Spans.Refused r) k i = absurd (n r (sym (answer-of _ _ i)))
 
       first-span : Sound (s .first) y → Sound (s .second) z → (u : Span) → spanIn y (s .first) (al .pos₁) 1 ≡ u
@@ -206,7 +240,7 @@ module _ (w : Strategies) (s : State) where
 
       go : (j : Judged) → judgedOf y z (s .first) (s .second) 1 2 ≡ j → onJudged w y z s j ≡ outcome Answers.Overlap u → Aligned (s .first) (s .second)
       go (Judge.Refused r) f h = let x : _≡_ {A = ℕ} 0 1 = cc (answer-of _ _ h) in absurd (omega arith)
-      go Judge.Apart f h = let x : _≡_ {A = ℕ} 0 1 = cc (answer-of _ _ h) in absurd (omega arith)
+      go (Judge.Apart r) f h = let x : _≡_ {A = ℕ} 0 1 = cc (answer-of _ _ h) in absurd (omega arith)
       go (Judge.Both p q) f h =
           let k = both-known y z (s .first) (s .second) 1 2 p q f in
           record {
@@ -220,10 +254,14 @@ module _ (w : Strategies) (s : State) where
           }
 
   -- ---- no second outcome fits
-  module _ (p q : ℕ) (g : Sound (s .first) y) (h : Sound (s .second) z) (a b : Outcome) (ka : Kept w s a p q) (kb : Kept w s b p q) where
+  module _ (p q : ℕ) (g : Sound (s .first) y) (h : Sound (s .second) z) (a b : Outcome) (ka : Kept w s a p q) (kb : Kept w s b p q) (ra : Reasoned s a) (rb : Reasoned s b) where
     same-answer : (r : Answer) → a .answer ≡ r → a .answer ≡ b .answer
     same-answer Answers.Overlap e = e ∙ sym (kb .overlap .1 (ka .overlap .0 e))
-    same-answer Answers.NoOverlap e = e ∙ sym (kb .apart .1 (ka .apart .0 e))
+    same-answer (Answers.NoOverlap Unmapped) e = e ∙ sym (rb .unmapped .1 (ra .unmapped .0 e))
+    same-answer (Answers.NoOverlap ReferencesDiffer) e = e ∙ sym (rb .references .1 (ra .references .0 e))
+    same-answer (Answers.NoOverlap NegativePosition) e = e ∙ sym (rb .negative .1 (ra .negative .0 e))
+    same-answer (Answers.NoOverlap NoReferenceLength) e = e ∙ sym (rb .lengthless .1 (ra .lengthless .0 e))
+    same-answer (Answers.NoOverlap NoSharedPosition) e = e ∙ sym (rb .unshared .1 (ra .unshared .0 e))
     same-answer (Answers.Refused r) e =
         let none : Overlaps s p q → ⊥ = λ o. not-refused (ka .overlap .1 o) in
         absurd (not-refused′ (ka .apart .1 none))
@@ -231,8 +269,8 @@ module _ (w : Strategies) (s : State) where
         not-refused : a .answer ≡ Answers.Overlap → ⊥
         not-refused f = let x : _≡_ {A = ℕ} 0 1 = cc in omega arith
 
-        not-refused′ : a .answer ≡ Answers.NoOverlap → ⊥
-        not-refused′ f = let x : _≡_ {A = ℕ} 0 1 = cc in omega arith
+        not-refused′ : NoOverlap a → ⊥
+        not-refused′ f = let x : _≡_ {A = ℕ} 0 1 = cc (f .1) in omega arith
 
     pub one-fits : Bytes (a .after .first) → Bytes (b .after .first) → Bytes (a .after .second) → Bytes (b .after .second) → a ≡ b
     one-fits b1 b2 b3 b4 =

@@ -1,3 +1,4 @@
 pub mod Pair
 pub mod Promise
+pub mod Reasons
 pub mod Examples

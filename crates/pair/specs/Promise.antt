@@ -13,12 +13,17 @@ use Rattle.fields.specs.Layout.{header, layoutOf}
 use Rattle.strategy.specs.declared.Strategies.{Strategies}
 use Rattle.positions.specs.Step.{State, job}
 use Rattle.pair_merge.specs.Promise.{Share, Corrected}
+use Rattle.pair_judgement.specs.declared.Reason.{Reason}
 use Rattle.pair.specs.declared.Answer.the-variants as Answers
 use Rattle.pair.specs.Pair.{Outcome}
 
 -- the call isn't refused
 abbrev pub NotRefused : Outcome → Type 0
 NotRefused o = (r : Refusal) → o .answer ≡ Answers.Refused r → ⊥
+
+-- the answer is "no overlap", for some reason
+abbrev pub NoOverlap : Outcome → Type 0
+NoOverlap o = (r : Reason) × (o .answer ≡ Answers.NoOverlap r)
 
 -- both records are mapped, on one reference id, and their positions are not negative
 pub record Aligned (a b : List ℕ) : Type 0 where
@@ -41,5 +46,5 @@ Overlaps s p q = (i : ReadOffset) × ((j : ReadOffset) × Share (layoutOf (s .fi
 -- demand 3: the answer is "overlap" exactly when some position is shared; both records and the counts are corrected
 pub record Kept (w : Strategies) (s : State) (o : Outcome) (p q : ℕ) : Type 0 where
   pub overlap : (o .answer ≡ Answers.Overlap) ↔ Overlaps s p q
-  pub apart : (o .answer ≡ Answers.NoOverlap) ↔ (Overlaps s p q → ⊥)
+  pub apart : NoOverlap o ↔ (Overlaps s p q → ⊥)
   pub corrected : Corrected (job w (layoutOf (s .first)) (layoutOf (s .second))) (fromOne p) (fromOne q) s (o .after)

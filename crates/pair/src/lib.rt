@@ -2,6 +2,7 @@
 use fields::Checked;
 use pair_judgement::Judged;
 use pair_judgement::Placed;
+use pair_judgement::Reason;
 use refusal::Refusal;
 use stats::CorrectionStats;
 use strategy::Strategies;
@@ -11,9 +12,10 @@ ghost use Rattle.positions.specs.Step.{state};
 ghost use Rattle.pair_judgement.specs.Ready.{Ready};
 ghost use Rattle.pair.specs.Pair.{onJudged, refusedAnswer, outcome, pairOf, answerCode};
 
-// What a pair call answers. A refusal and "no overlap" change nothing.
+// What a pair call answers: no overlap, for a reason; overlap; or a refusal. A refusal and "no overlap"
+// change nothing.
 pub enum Answer {
-    NoOverlap,
+    NoOverlap(Reason),
     Overlap,
     Refused(Refusal),
 }
@@ -30,7 +32,7 @@ impl Answer {
         ensures { λ r. ⌜ r ≡ answerCode self ⌝ }
     {
         match self {
-            Answer::NoOverlap => 0,
+            Answer::NoOverlap(_) => 0,
             Answer::Overlap => 1,
             Answer::Refused(r) => r.code(),
         }
@@ -38,11 +40,11 @@ impl Answer {
 }
 
 // A record that was not good, as the call's answer.
-fn refused(c: Checked) -> Answer
+pub fn refused(c: Checked) -> Answer
     ensures { λ r. ⌜ r ≡ refusedAnswer c ⌝ }
 {
     match c {
-        Checked::Good(_) => Answer::NoOverlap,
+        Checked::Good(_) => Answer::Overlap,
         Checked::Bad(r) => Answer::Refused(r),
     }
 }
@@ -63,7 +65,7 @@ fn call_both(
     let after = met.stats;
     if met.shared == 0 {
         return Called {
-            answer: Answer::NoOverlap,
+            answer: Answer::NoOverlap(pair_judgement::unshared(a.extent, b.extent)),
             stats: after,
         };
     }
@@ -104,8 +106,8 @@ pub fn call(first: &mut [u8], second: &mut [u8], w: Strategies, stats: Correctio
             answer: Answer::Refused(r),
             stats,
         },
-        Judged::Apart => Called {
-            answer: Answer::NoOverlap,
+        Judged::Apart(r) => Called {
+            answer: Answer::NoOverlap(r),
             stats,
         },
         Judged::Both(p, q) => {

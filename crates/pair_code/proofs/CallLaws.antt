@@ -15,6 +15,7 @@ use Rattle.strategy.specs.declared.Numbered.the-variants as Numbers
 use Rattle.strategy.specs.Number.{numberedOf}
 use Rattle.strategy.proofs.NumberLaws.{refused-is}
 use Rattle.positions.specs.Step.{State, state}
+use Rattle.pair_judgement.specs.declared.Reason.{Reason}
 use Rattle.pair.specs.declared.Answer.the-variants as Answers
 use Rattle.pair.specs.Pair.{Outcome, outcome, pairOf}
 use Rattle.pair_code.specs.Call.{returned, called, withNumbers, callOf}
@@ -38,8 +39,8 @@ module _ (a b : List ℕ) (m k : ℕ) (c : List ℕ) where
 
 -- the answer's three cases
 module _ (c : List ℕ) (o : Outcome) where
-  pub called-none : o .answer ≡ Answers.NoOverlap → returned 0 (o .after .first) (o .after .second) c ≡ called c o
-  called-none e = rw e
+  pub called-none : (r : Reason) → o .answer ≡ Answers.NoOverlap r → returned 0 (o .after .first) (o .after .second) c ≡ called c o
+  called-none r e = rw e
 
   pub called-overlap : (d : List ℕ) → o .answer ≡ Answers.Overlap → d ≡ withCounts c 0 (o .after .stats) → returned 1 (o .after .first) (o .after .second) d ≡ called c o
   called-overlap d e f = rw e (ap (returned 1 (o .after .first) (o .after .second)) f)

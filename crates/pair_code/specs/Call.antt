@@ -29,7 +29,7 @@ returned r a b c = record { answer = r; first = a; second = b; counts = c }
 
 -- counts are written for an overlap alone
 abbrev pub countsAfter : Answer → List ℕ → CorrectionStats → List ℕ
-countsAfter Answers.NoOverlap c g = c
+countsAfter (Answers.NoOverlap r) c g = c
 countsAfter Answers.Overlap c g = withCounts c 0 g
 countsAfter (Answers.Refused r) c g = c
 

@@ -31,7 +31,7 @@ pub fn call(
     let called = pair::call(first, second, w, stats);
     let answer = called.answer;
     match answer {
-        Answer::NoOverlap => 0,
+        Answer::NoOverlap(_) => 0,
         Answer::Overlap => {
             let after = called.stats;
             stats::put_counts(counts, 0, after);

@@ -27,6 +27,7 @@ use Rattle.stats.proofs.CountLaws.{room-less}
 use Rattle.strategy.specs.declared.Strategies.{Strategies}
 use Rattle.positions.specs.Step.{State, state, job}
 use Rattle.pair_merge.specs.Shared.{Walked}
+use Rattle.pair_judgement.specs.declared.Reason.{Reason}
 use Rattle.pair_judgement.specs.declared.Judged.{Judged}
 use Rattle.pair_judgement.specs.declared.Judged.the-variants as Judge
 use Rattle.pair_judgement.specs.declared.Where.{Where}
@@ -44,7 +45,7 @@ uses-any count n i j (Totals read reference) m e = go (ltb 0 count && ltb 0 n &&
     go : (t : Bool) → cond t (Ops.Refused (ReadTotal i)) (Ops.Uses reference) ≡ Ops.Uses m → cond t (Ops.Refused (ReadTotal j)) (Ops.Uses reference) ≡ Ops.Uses m
     go true f = let z : _≡_ {A = ℕ} 0 1 = cc in absurd (omega arith)
     go false f = f
-uses-any count n i j UnknownCode m e = let z : _≡_ {A = ℕ} 0 1 = cc in absurd (omega arith)
+uses-any count n i j (UnknownCode k) m e = let z : _≡_ {A = ℕ} 0 1 = cc in absurd (omega arith)
 
 end-any : (pos n i j : ℕ) (x : Extent) → spanOf pos n i ≡ Spans.Covers x → spanOf pos n j ≡ Spans.Covers x
 unfolding spanOf
@@ -81,8 +82,8 @@ module _ (a b : List ℕ) where
   abbrev z : Layout
   z = layoutOf b
 
-  pub cleared-apart : whereOf a b ≡ Apart → (i j : ℕ) → judgedOf (layoutOf a) (layoutOf b) a b i j ≡ Judge.Apart
-  cleared-apart e i j = sym (rw e at (where-judged y z a b i j))
+  pub cleared-apart : (r : Reason) → whereOf a b ≡ Apart r → (i j : ℕ) → judgedOf (layoutOf a) (layoutOf b) a b i j ≡ Judge.Apart r
+  cleared-apart r e i j = sym (rw e at (where-judged y z a b i j))
 
   pub cleared-on : (p q : ℕ) → Cleared a b → whereOf a b ≡ On p q → Covered a b p q
   cleared-on p q k e = first (spanIn y a p (k .place₁)) refl
@@ -107,8 +108,8 @@ module _ (a b : List ℕ) where
 -- ---- the call, by where the records were found, and by their layouts as they were read
 module _ (a b : List ℕ) (k : Where) (found : k ≡ whereOf a b) where
   -- records apart
-  pub apart-met : k ≡ Apart → (w : Strategies) (g h : CorrectionStats) (n : ℕ) → (n ≡ 0) × (h ≡ g) → TreatedAt (whereOf a b) w (state a b g) (state a b h) n
-  apart-met e w g h n m = rw (sym found ∙ e) (ap (state a b) (m .1), m .0)
+  pub apart-met : (r : Reason) → k ≡ Apart r → (w : Strategies) (g h : CorrectionStats) (n : ℕ) → (n ≡ 0) × (h ≡ g) → TreatedAt (whereOf a b) w (state a b g) (state a b h) n
+  apart-met r e w g h n m = rw (sym found ∙ e) (ap (state a b) (m .1), m .0)
 
   module _ (p q : ℕ) (on : k ≡ On p q) (y z : Layout) (read₁ : y ≡ layoutOf a) (read₂ : z ≡ layoutOf b) where
     -- records on one reference

@@ -6,8 +6,9 @@ use mathlib.Core.Bool.{Bool, true, false, cond, _||_}
 use mathlib.Core.Option.{Option, none, some}
 use mathlib.Core.Logic.{_⊎_, inl, inr}
 use native.Mathlib.Omega.{arith}
+use lib.Dec.{ltb}
 use lib.ListN.{length}
-use borrow.Author.Tests.{le-ltb}
+use borrow.Author.Tests.{le-ltb, eqb-true, eqb-false}
 use Rattle.refusal.specs.declared.Refusal.{Refusal}
 use Rattle.fields.specs.declared.Layout.{Layout}
 use Rattle.fields.specs.declared.RefPos.{RefPos}
@@ -31,11 +32,14 @@ use Rattle.stats.specs.declared.CorrectionStats.{CorrectionStats}
 use Rattle.positions.specs.declared.Job.{Job}
 use Rattle.positions.specs.Step.{State, state}
 use Rattle.positions.specs.Treating.{steps}
-use Rattle.pair_merge.specs.Shared.{baseIn, shared, merged, Walked}
+use Rattle.pair_merge.specs.Shared.{baseIn, pairs, shared, merged, Walked}
 use Rattle.pair_merge.proofs.PairLaws.{none-left, none-in}
+use Rattle.pair_judgement.specs.declared.Reason.{Reason}
+use Rattle.pair_judgement.specs.declared.Reason.the-variants.{Unmapped, ReferencesDiffer}
 use Rattle.pair_judgement.specs.declared.Judged.{Judged}
 use Rattle.pair_judgement.specs.declared.Judged.the-variants as Judge
 use Rattle.pair_judgement.specs.Judgement.{onUses, onSpan, onPosition, spanIn, mappedOf, judgedOf}
+use Rattle.pair_judgement.specs.Reason.{coversNone, lengthless}
 use Rattle.pair_judgement.specs.Ready.{Ready, TreatedTo}
 
 -- ---- each step was passed
@@ -51,14 +55,14 @@ on-placed : (x : Position) (f : ℕ → Judged) (p q : Extent) → onPosition x 
 on-placed (At n) f p q e = (n, (refl, e))
 on-placed Unplaced f p q e = let z : _≡_ {A = ℕ} 0 1 = cc in absurd (omega arith)
 
-on-true : (t : Bool) (x : Judged) (p q : Extent) → cond t x Judge.Apart ≡ Judge.Both p q → (t ≡ true) × (x ≡ Judge.Both p q)
-on-true true x p q e = (refl, e)
-on-true false x p q e = let z : _≡_ {A = ℕ} 0 1 = cc in absurd (omega arith)
+on-true : (t : Bool) (x : Judged) (r : Reason) (p q : Extent) → cond t x (Judge.Apart r) ≡ Judge.Both p q → (t ≡ true) × (x ≡ Judge.Both p q)
+on-true true x r p q e = (refl, e)
+on-true false x r p q e = let z : _≡_ {A = ℕ} 0 1 = cc in absurd (omega arith)
 
-on-neither : (t u : Bool) (x : Judged) (p q : Extent) → cond (t || u) Judge.Apart x ≡ Judge.Both p q → (t ≡ false) × (u ≡ false) × (x ≡ Judge.Both p q)
-on-neither true u x p q e = let z : _≡_ {A = ℕ} 0 1 = cc in absurd (omega arith)
-on-neither false true x p q e = let z : _≡_ {A = ℕ} 0 1 = cc in absurd (omega arith)
-on-neither false false x p q e = (refl, refl, e)
+on-neither : (t u : Bool) (r : Reason) (x : Judged) (p q : Extent) → cond (t || u) (Judge.Apart r) x ≡ Judge.Both p q → (t ≡ false) × (u ≡ false) × (x ≡ Judge.Both p q)
+on-neither true u r x p q e = let z : _≡_ {A = ℕ} 0 1 = cc in absurd (omega arith)
+on-neither false true r x p q e = let z : _≡_ {A = ℕ} 0 1 = cc in absurd (omega arith)
+on-neither false false r x p q e = (refl, refl, e)
 
 -- ---- one record whose alignment covers p
 pub record Spanned (y : Layout) (s : List ℕ) (pos : ℕ) (p : Extent) : Type 0 where
@@ -79,6 +83,13 @@ pub spanned-walked : (y : Layout) (s : List ℕ) (pos : ℕ) (p : Extent) → Sp
 spanned-walked y s pos p h g c =
     record { reads = h .read c; refs = omega (arith, h .first, h .last); small = omega (arith, g .lies .qualities, g .allowed) }
 
+-- whether it covers no position, by its lengths on the reference
+pub none-covered : {y : Layout} {s : List ℕ} {pos : ℕ} {p : Extent} → Spanned y s pos p → coversNone p ≡ true → refSum (opsIn y s) ≡ 0
+none-covered {p = p} h e = omega (arith, h .past, eqb-true (p .start .0) (p .end .0) e)
+
+pub some-covered : {y : Layout} {s : List ℕ} {pos : ℕ} {p : Extent} → Spanned y s pos p → coversNone p ≡ false → refSum (opsIn y s) ≡ 0 → ⊥
+some-covered {p = p} h e z = eqb-false (p .start .0) (p .end .0) e (omega (arith, h .past))
+
 -- ---- both records
 pub record Known (y z : Layout) (a b : List ℕ) (p q : Extent) : Type 0 where
   pub mapped₁ : hasBit (header a .flags) unmapped ≡ false
@@ -94,8 +105,8 @@ pub record Known (y z : Layout) (a b : List ℕ) (p q : Extent) : Type 0 where
 pub both-known : (y z : Layout) (a b : List ℕ) (i j : ℕ) (p q : Extent) → judgedOf y z a b i j ≡ Judge.Both p q → Known y z a b p q
 unfolding judgedOf mappedOf
 both-known y z a b i j p q e =
-    let m = on-neither (hasBit (header a .flags) unmapped) (hasBit (header b .flags) unmapped) _ p q e in
-    let r = on-true (sameId (header a .refId) (header b .refId)) _ p q (m .2) in
+    let m = on-neither (hasBit (header a .flags) unmapped) (hasBit (header b .flags) unmapped) Unmapped _ p q e in
+    let r = on-true (sameId (header a .refId) (header b .refId)) _ ReferencesDiffer p q (m .2) in
     let n₁ = on-placed (positionOf (header a .pos)) _ p q (r .1) in
     let n₂ = on-placed (positionOf (header b .pos)) _ p q (n₁ .1 .1) in
     let s₁ = on-span (spanIn y a (n₁ .0) i) _ p q (n₂ .1 .1) in
@@ -128,6 +139,9 @@ module _ (y z : Layout) (p q : RefPos) (a b : List ℕ) where
   unfolding shared
   empty₂ e = none-left (baseIn y a p) (baseIn z b q) (p .0) _ (λ t l. inr (no-bases (z .count) (offAt (opsIn z b) 0 (q .0) t) e))
 
+  pub unshared : shared y z p q a b ≡ [] → false ≡ ltb 0 (length (shared y z p q a b))
+  unshared e = sym (ap (λ (l : List (ℕ × ℕ)). ltb 0 (length l)) e)
+
 -- ---- nor where one ends before the other begins
 outside : (count : ℕ) (ops : List ℕ) (r t : ℕ) → ((r ≤ t) × (t < r + refSum ops) → ⊥) → baseOn count ops r t ≡ none
 outside count ops r t h = go (offAt ops 0 r t) refl
@@ -135,6 +149,27 @@ outside count ops r t h = go (offAt ops 0 r t) refl
     go : (x : Option ℕ) → offAt ops 0 r t ≡ x → ofBases count x ≡ none
     go none e = refl
     go (some i) e = let w = off-within ops r i t e in absurd (h (w .1, w .2))
+
+-- nor where one uses nothing of the reference
+module _ (y z : Layout) (p q : RefPos) (a b : List ℕ) where
+  pub lengthless₁ : refSum (opsIn y a) ≡ 0 → shared y z p q a b ≡ []
+  unfolding shared pairs
+  lengthless₁ e = ap (pairs (baseIn y a p) (baseIn z b q) (p .0)) e
+
+  pub lengthless₂ : refSum (opsIn z b) ≡ 0 → shared y z p q a b ≡ []
+  unfolding shared
+  lengthless₂ e =
+      none-left (baseIn y a p) (baseIn z b q) (p .0) _
+      (λ t l. inr (outside (z .count) (opsIn z b) (q .0) t (λ w. absurd (omega (arith, w .0, w .1, e)))))
+
+  -- by what they cover
+  pub none-reached : {m n : ℕ} (x t : Extent) → Spanned y a m x → Spanned z b n t → lengthless x t ≡ true → shared y z p q a b ≡ []
+  none-reached x t h k e = go (coversNone x) (coversNone t) refl refl e
+    where
+      go : (c d : Bool) → coversNone x ≡ c → coversNone t ≡ d → c || d ≡ true → shared y z p q a b ≡ []
+      go true d f g e′ = lengthless₁ (none-covered h f)
+      go false true f g e′ = lengthless₂ (none-covered k g)
+      go false false f g e′ = let n : _≡_ {A = ℕ} 0 1 = cc in absurd (omega arith)
 
 module _ (y z : Layout) (p q : Extent) (a b : List ℕ) (known : Ready y z p q a b) where
   both : Known y z a b p q

@@ -1,3 +1,4 @@
+pub mod Reason
 pub mod Judgement
 pub mod Ready
 pub mod Where

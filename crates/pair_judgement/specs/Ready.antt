@@ -41,5 +41,5 @@ pub record Cleared (a b : List ℕ) : Type 0 where
 
 -- what treating them gives, by where they lie: nothing is met of records apart
 abbrev pub TreatedAt : Where → Strategies → State → State → ℕ → Type 0
-TreatedAt Apart w s u n = (u ≡ s) × (n ≡ 0)
+TreatedAt (Apart r) w s u n = (u ≡ s) × (n ≡ 0)
 TreatedAt (On p q) w s u n = TreatedTo (job w (layoutOf (s .first)) (layoutOf (s .second))) (record { 0 = p + 1 }) (record { 0 = q + 1 }) s u n

@@ -1,5 +1,5 @@
-// Two sound records judged by the order of judgement, steps 4 to 7, and treated where they share
-// positions.
+// Two sound records judged by the order of judgement, steps 4 to 7, with the reason where they lie apart,
+// and treated where they share positions.
 use cigar::Extent;
 use cigar::Operations;
 use cigar::Span;
@@ -13,55 +13,107 @@ use stats::CorrectionStats;
 use strategy::Strategies;
 ghost use mathlib.Core.Path.{_≡_};
 ghost use Prim.Native.Nat.{ℕ, _≤_};
+ghost use lib.Dec.{ltb};
 ghost use lib.ListN.{length};
+ghost use Rattle.fields.specs.Layout.{header};
+ghost use Rattle.fields.specs.Position.{sameId};
 ghost use Rattle.fields.specs.Sound.{Sound};
 ghost use Rattle.stats.specs.Room.{Room};
 ghost use Rattle.positions.specs.Step.{state, job};
+ghost use Rattle.pair_merge.specs.Shared.{shared};
+ghost use Rattle.pair_judgement.specs.Reason.{reasonNumber, unsharedOf};
 ghost use Rattle.pair_judgement.specs.Judgement.{onUses, onSpan, spanIn, judgedOf};
 ghost use Rattle.pair_judgement.specs.Ready.{Ready, TreatedTo, Cleared, TreatedAt};
-ghost use Rattle.pair_judgement.specs.Where.{whereOf};
+ghost use Rattle.pair_judgement.specs.Where.{misplaced, whereOf, onWhere};
 
-// Two sound records judged: refused, apart for what their headers say, or both placed on one
-// reference, each with the positions that it covers.
+// Why two records do not overlap, in the order in which it is asked: one is unmapped; their reference
+// ids differ; a position is negative; an alignment uses nothing of the reference; no position is shared.
+pub enum Reason {
+    Unmapped,
+    ReferencesDiffer,
+    NegativePosition,
+    NoReferenceLength,
+    NoSharedPosition,
+}
+
+// Two sound records judged: refused, apart for a reason, or both placed on one reference, each with the
+// positions that it covers.
 pub enum Judged {
     Refused(Refusal),
-    Apart,
+    Apart(Reason),
     Both(Extent, Extent),
 }
 
 // Where two records lie: apart for what their headers say, or both on one reference at these
 // positions.
 pub enum Where {
-    Apart,
+    Apart(Reason),
     On(u32, u32),
 }
 
-// Steps 4 to 6 of the order of judgement, from the headers alone.
+impl Reason {
+    // Its number, from 1 to 5.
+    pub fn number(self) -> u32
+        ensures { λ r. ⌜ r ≡ reasonNumber self ⌝ }
+    {
+        match self {
+            Reason::Unmapped => 1,
+            Reason::ReferencesDiffer => 2,
+            Reason::NegativePosition => 3,
+            Reason::NoReferenceLength => 4,
+            Reason::NoSharedPosition => 5,
+        }
+    }
+}
+
+// Where two mapped records lie of which one has a negative position: ids that differ come first.
+fn negative(first: &[u8], second: &[u8]) -> Where
+    requires { ⌜ (32 ≤ length (now first)) × (32 ≤ length (now second)) ⌝ }
+    ensures { λ r. ⌜ r ≡ misplaced (sameId (header (now (first .entry)) .refId) (header (now (second .entry)) .refId)) ⌝ }
+{
+    let same = fields::same_reference(first, second);
+    if same {
+        return Where::Apart(Reason::NegativePosition);
+    }
+    Where::Apart(Reason::ReferencesDiffer)
+}
+
+// Steps 4 to 6 of the order of judgement, with the reason, from the headers alone.
 pub fn locate(first: &[u8], second: &[u8]) -> Where
     requires { ⌜ (32 ≤ length (now first)) × (32 ≤ length (now second)) ⌝ }
     ensures { λ r. ⌜ r ≡ whereOf (now (first .entry)) (now (second .entry)) ⌝ }
 {
     let f = fields::flags_of(first);
     if f.unmapped() {
-        return Where::Apart;
+        return Where::Apart(Reason::Unmapped);
     }
     let g = fields::flags_of(second);
     if g.unmapped() {
-        return Where::Apart;
-    }
-    let same = fields::same_reference(first, second);
-    if !same {
-        return Where::Apart;
+        return Where::Apart(Reason::Unmapped);
     }
     let at1 = fields::start_of(first);
     let Position::At(pos1) = at1 else {
-        return Where::Apart;
+        return negative(first, second);
     };
     let at2 = fields::start_of(second);
     let Position::At(pos2) = at2 else {
-        return Where::Apart;
+        return negative(first, second);
     };
+    let same = fields::same_reference(first, second);
+    if !same {
+        return Where::Apart(Reason::ReferencesDiffer);
+    }
     Where::On(pos1, pos2)
+}
+
+// Records apart by their headers, as what is judged of them.
+fn apart(at: Where) -> Judged
+    ensures { λ r. ⌜ r ≡ onWhere at (λ (p q : ℕ). Judged.Apart Reason.NoSharedPosition) ⌝ }
+{
+    match at {
+        Where::Apart(r) => Judged::Apart(r),
+        Where::On(_, _) => Judged::Apart(Reason::NoSharedPosition),
+    }
 }
 
 // The refusal of operations, as the answer of a span.
@@ -91,12 +143,26 @@ pub fn span_of(s: &[u8], y: Layout, pos: u32, place: u16) -> Span
 
 // The refusal of a span, as what is judged of a pair.
 fn unplaced(p: Span) -> Judged
-    ensures { λ r. ⌜ r ≡ onSpan p (λ (s : Extent). Judged.Apart) ⌝ }
+    ensures { λ r. ⌜ r ≡ onSpan p (λ (s : Extent). Judged.Both s s) ⌝ }
 {
     match p {
-        Span::Covers(_) => Judged::Apart,
+        Span::Covers(e) => Judged::Both(e, e),
         Span::Refused(r) => Judged::Refused(r),
     }
+}
+
+// Why two records on one reference that cover these positions share none: an alignment that covers no
+// position uses nothing of the reference.
+pub fn unshared(p: Extent, q: Extent) -> Reason
+    ensures { λ r. ⌜ r ≡ unsharedOf p q ⌝ }
+{
+    if p.start.0 == p.end.0 {
+        return Reason::NoReferenceLength;
+    }
+    if q.start.0 == q.end.0 {
+        return Reason::NoReferenceLength;
+    }
+    Reason::NoSharedPosition
 }
 
 // Two sound records judged by steps 4 to 7, from their bytes alone; a refusal names the place given.
@@ -106,7 +172,7 @@ pub fn judge(first: &[u8], second: &[u8], y: Layout, z: Layout, place1: u16, pla
 {
     let at = locate(first, second);
     let Where::On(pos1, pos2) = at else {
-        return Judged::Apart;
+        return apart(at);
     };
     let span1 = span_of(first, y, pos1, place1);
     let Span::Covers(extent1) = span1 else {
@@ -172,6 +238,24 @@ pub fn treat(
         second: z,
     };
     pair_merge::merge(job, first, second, p.start, q.start, g)
+}
+
+// Whether two records that were judged to be on one reference share a position. It only reads them.
+pub fn share(first: &[u8], second: &[u8], a: Placed, b: Placed) -> bool
+    requires { ⌜ Ready (a .layout) (b .layout) (a .extent) (b .extent) (now first) (now second) ⌝ }
+    ensures { λ r. ⌜ r ≡ ltb 0 (length (shared (a .layout) (b .layout) (a .extent .start) (b .extent .start) (now (first .entry)) (now (second .entry)))) ⌝ }
+{
+    let y = a.layout;
+    if y.count == 0 {
+        return false;
+    }
+    let z = b.layout;
+    if z.count == 0 {
+        return false;
+    }
+    let p = a.extent;
+    let q = b.extent;
+    pair_merge::meet(first, second, y, z, p.start, q.start)
 }
 
 // Two records that were judged and not refused, treated where they stand and not judged again: from

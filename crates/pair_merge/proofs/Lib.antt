@@ -1,4 +1,5 @@
 pub mod PairLaws
 pub mod MergeLaws
+pub mod MeetLaws
 pub mod PromiseLaws
 pub mod UniqueLaws

@@ -2,11 +2,14 @@
 use Prim.Native.Nat.{ℕ, _+_, _-_, _*_, _≤_, _<_}
 use mathlib.Core.Path.{_≡_, refl, sym, ap, ap₂, subst, _∙_}
 use mathlib.Core.List.{List, [], _++_}
+use mathlib.Core.Bool.{true, false}
 use mathlib.Core.Option.{Option}
 use mathlib.Core.Logic.{_⊎_, inl, inr, ⊎-elim}
 use native.Mathlib.Omega.{arith}
 use lib.ListN.{length, take, drop, length-append}
+use lib.Dec.{ltb}
 use lib.Seq.{length-take-le}
+use borrow.Author.Tests.{lt-ltb, le-ltb}
 use Rattle.fields.specs.declared.Layout.{Layout}
 use Rattle.fields.specs.declared.RefPos.{RefPos}
 use Rattle.fields.specs.Sound.{Lies}
@@ -171,6 +174,21 @@ module _ (v : Strategies) (y z : Layout) (r t : RefPos) (s₀ : State) where
         counted = m .counted;
       }
 
+  -- both at one position: a row of k shared positions lies ahead
+  row-ahead : (a b : Cursor) (met : ℕ) (s : State) (k : ℕ) → Merging a b met s → k ≤ a .left → k ≤ b .left → a .position .0 ≡ b .position .0
+      → ahead (a .position .0) ≡ row (a .offset .0) (b .offset .0) k ++ ahead (a .position .0 + k)
+  row-ahead a b met s k m ha hb er =
+      take-row o₁ o₂ e₁ (a .position .0) (a .offset .0) (b .offset .0) k (omega (arith, m .side₁ .refs))
+      (λ u hi. m .side₁ .ahead (a .position .0 + u) (omega arith) ∙ cur-in cig₁ a u (omega arith))
+      (λ u hi. m .side₂ .ahead (a .position .0 + u) (omega arith) ∙ (ap (λ (x : ℕ). curOff cig₂ b (x + u)) er ∙ cur-in cig₂ b u (omega arith)))
+
+  -- so some position is shared
+  pub merging-met : (a b : Cursor) (s : State) → Merging a b 0 s → (a .left ≡ 0 → ⊥) → (b .left ≡ 0 → ⊥) → a .position .0 ≡ b .position .0
+      → true ≡ ltb 0 (length (shared y z r t (s₀ .first) (s₀ .second)))
+  merging-met a b s m ha hb er =
+      let front = row-ahead a b 0 s 1 m (omega arith) (omega arith) er in
+      sym (lt-ltb 0 (length (shared y z r t (s₀ .first) (s₀ .second))) (omega (arith, simp length-append at (ap length front), row-length (a .offset .0) (b .offset .0) 1, m .counted)))
+
   -- both at one position: k shared positions
   pub merging-both : (a b a′ b′ : Cursor) (met : ℕ) (s s′ : State) (k : ℕ) → y .bases ≤ y .qualities → z .bases ≤ z .qualities → Merging a b met s → k ≤ a .left → k ≤ b .left
       → a .position .0 ≡ b .position .0 → Settled cig₁ (advanced a k) a′ → Settled cig₂ (advanced b k) b′ → s′ ≡ steps (job v y z) (row (a .offset .0) (b .offset .0) k) s
@@ -184,10 +202,7 @@ module _ (v : Strategies) (y z : Layout) (r t : RefPos) (s₀ : State) where
       let long = steps-length (job v y z) w s in
       let same : ahead (a .position .0 + k) ≡ ahead (a′ .position .0) =
       skip-to o₁ o₂ e₁ (a .position .0 + k) (a′ .position .0) up (λ u lo hi. inl (s1 .ahead u lo ∙ cur-below cig₁ a′ u hi)) in
-      let front : ahead (a .position .0) ≡ w ++ ahead (a .position .0 + k) =
-      take-row o₁ o₂ e₁ (a .position .0) (a .offset .0) (b .offset .0) k (omega (arith, m .side₁ .refs))
-      (λ u hi. m .side₁ .ahead (a .position .0 + u) (omega arith) ∙ cur-in cig₁ a u (omega arith))
-      (λ u hi. m .side₂ .ahead (a .position .0 + u) (omega arith) ∙ (ap (λ (x : ℕ). curOff cig₂ b (x + u)) er ∙ cur-in cig₂ b u (omega arith))) in
+      let front = row-ahead a b met s k m ha hb er in
       record {
         side₁ = side-later cig₁ o₁ (a .position .0 + k) (a′ .position .0) (y .count) e₁ a′ s1 up;
         side₂ = side-later cig₂ o₂ (a .position .0 + k) (a′ .position .0) (z .count) e₂ b′ s2 up;
@@ -226,6 +241,10 @@ module _ (v : Strategies) (y z : Layout) (r t : RefPos) (s₀ : State) where
   pub merging-end₂ : (a b : Cursor) (met : ℕ) (s : State) → Merging a b met s → b .left ≡ 0 → Done met s
   merging-end₂ a b met s m h =
       done (a .position .0) met s (none-left o₁ o₂ (a .position .0) _ (λ u lo. inr (m .side₂ .ahead u lo ∙ cur-done cig₂ b u h (m .side₂ .done h)))) (m .left) (m .counted)
+
+  -- all is done, and nothing was met
+  pub none-met : (s : State) → Done 0 s → false ≡ ltb 0 (length (shared y z r t (s₀ .first) (s₀ .second)))
+  none-met s d = sym (le-ltb 0 (length (shared y z r t (s₀ .first) (s₀ .second))) (omega (arith, d .counted)))
 
   -- what the calls in the loop ask
   pub ready₁ : (a : Cursor) (l : List ℕ) (p d : ℕ) → Side cig₁ o₁ p (y .count) e₁ a → length l ≡ length (s₀ .first) → take (y .bases) l ≡ cig₁ → Lies y (length (s₀ .first)) → Walked y r (s₀ .first) → d ≤ a .left

@@ -1,11 +1,13 @@
 // The walk over the shared positions of two records: two cursors, one over each alignment, and every
 // run of positions at which both records have a base.
+use fields::Layout;
 use fields::ReadOffset;
 use fields::RefPos;
 use positions::Job;
 use stats::CorrectionStats;
 ghost use mathlib.Core.Path.{_≡_};
 ghost use Prim.Native.Nat.{_*_, min};
+ghost use lib.Dec.{ltb};
 ghost use lib.ListN.{length};
 ghost use Rattle.fields.specs.Sound.{Lies};
 ghost use Rattle.stats.specs.Room.{Room};
@@ -80,4 +82,39 @@ pub fn merge(
         shared: met,
         stats: h,
     }
+}
+
+// Whether two records whose alignments start at the positions p and q share a position: the same walk,
+// up to the first one. It only reads.
+pub fn meet(first: &[u8], second: &[u8], y: Layout, z: Layout, p: RefPos, q: RefPos) -> bool
+    requires { ⌜ Lies y (length (now first)) × Lies z (length (now second)) × Walked y p (now first) × Walked z q (now second) ⌝ }
+    ensures { λ r. ⌜ r ≡ ltb 0 (length (shared y z p q (now (first .entry)) (now (second .entry)))) ⌝ }
+{
+    let from1 = p.0;
+    let from2 = q.0;
+    let mut a = cigar::begin(first, y, RefPos(from1));
+    let mut b = cigar::begin(second, z, RefPos(from2));
+    while a.left != 0 {
+        if b.left == 0 {
+            return false;
+        }
+        if a.position.0 < b.position.0 {
+            a = cigar::pass(
+                first,
+                y.bases,
+                a,
+                smaller(a.left, b.position.0 - a.position.0),
+            );
+        } else if b.position.0 < a.position.0 {
+            b = cigar::pass(
+                second,
+                z.bases,
+                b,
+                smaller(b.left, a.position.0 - b.position.0),
+            );
+        } else {
+            return true;
+        }
+    }
+    false
 }

@@ -9,11 +9,11 @@ use Rattle.cigar.proofs.check_operations.Tie as tie
 walk-operations-requires : tie.Need-walk-operations-requires
 walk-operations-requires c κs = search needs
 
-enum-told : tie.Need-enum-told
-enum-told c = search needs
-
 enum-known-w : tie.Need-enum-known-w
 enum-known-w c = search needs
+
+enum-known-w-2 : tie.Need-enum-known-w-2
+enum-known-w-2 c = search needs
 
 returns : tie.Need-returns
 returns c =
@@ -21,8 +21,8 @@ returns c =
     let by-walk-operations = by-w .before .before in
     let entry = by-walk-operations .before .before in
     let args = entry .args in
-    judged-empty (args .y) (now (args .s)) (args .place) (by-w .w .given .0 .0) (by-w .w .given .0 .1 .0)
-    (by-walk-operations .walk-operations .result) (by-walk-operations .walk-operations .ensures) (by-w .w .given .1) (c .if1 .taken)
+    judged-empty (args .y) (now (args .s)) (args .place) (by-w .w2 .given .0 .0) (by-w .w2 .given .0 .1 .0)
+    (by-walk-operations .walk-operations .result) (by-walk-operations .walk-operations .ensures) (by-w .w2 .given .1) (c .if1 .taken)
 
 sub-if2 : tie.Need-sub-if2
 sub-if2 c = search needs
@@ -33,8 +33,8 @@ returns-2 c =
     let by-walk-operations = by-w .before .before in
     let entry = by-walk-operations .before .before in
     let args = entry .args in
-    judged-none (args .y) (now (args .s)) (args .place) (by-w .w .given .0 .0) (by-w .w .given .0 .1 .0)
-    (by-walk-operations .walk-operations .result) (by-walk-operations .walk-operations .ensures) (by-w .w .given .1)
+    judged-none (args .y) (now (args .s)) (args .place) (by-w .w2 .given .0 .0) (by-w .w2 .given .0 .1 .0)
+    (by-walk-operations .walk-operations .result) (by-walk-operations .walk-operations .ensures) (by-w .w2 .given .1)
     (omega (arith, entry .pre .0 .bases, entry .pre .0 .qualities)) (c .if2 .taken)
 
 returns-3 : tie.Need-returns-3
@@ -43,16 +43,16 @@ returns-3 c =
     let by-walk-operations = by-w .before .before in
     let entry = by-walk-operations .before .before in
     let args = entry .args in
-    judged-total (args .y) (now (args .s)) (args .place) (by-w .w .given .0 .0) (by-w .w .given .0 .1 .0)
-    (by-walk-operations .walk-operations .result) (by-walk-operations .walk-operations .ensures) (by-w .w .given .1) (c .if3 .taken)
+    judged-total (args .y) (now (args .s)) (args .place) (by-w .w2 .given .0 .0) (by-w .w2 .given .0 .1 .0)
+    (by-walk-operations .walk-operations .result) (by-walk-operations .walk-operations .ensures) (by-w .w2 .given .1) (c .if3 .taken)
 
 returns-4 : tie.Need-returns-4
 returns-4 c =
-    let by-walk-operations = c .before .before in
+    let by-walk-operations = c .before .before .before in
     let entry = by-walk-operations .before .before in
     let args = entry .args in
     judged-as (args .y) (now (args .s)) (args .place) (by-walk-operations .walk-operations .result) _
-    (by-walk-operations .walk-operations .ensures) (c .enum-told .given .1)
+    (by-walk-operations .walk-operations .ensures) (c .before .w .given .1)
 
 returns-5 : tie.Need-returns-5
 returns-5 c =
@@ -61,8 +61,8 @@ returns-5 c =
     let by-walk-operations = by-w .before .before in
     let entry = by-walk-operations .before .before in
     let args = entry .args in
-    judged-wrong (args .y) (now (args .s)) (args .place) (by-w .w .given .0 .0) (by-w .w .given .0 .1 .0)
-    (by-walk-operations .walk-operations .result) (by-walk-operations .walk-operations .ensures) (by-w .w .given .1) (by-if1 .if1 .left)
+    judged-wrong (args .y) (now (args .s)) (args .place) (by-w .w2 .given .0 .0) (by-w .w2 .given .0 .1 .0)
+    (by-walk-operations .walk-operations .result) (by-walk-operations .walk-operations .ensures) (by-w .w2 .given .1) (by-if1 .if1 .left)
     (omega (arith, entry .pre .0 .bases, entry .pre .0 .qualities)) (c .before .if2 .left) (c .if3 .left)
 
 pub check-operations-spec : {M : Type 1} → statement M
@@ -70,8 +70,8 @@ check-operations-spec =
     tie.close
     (tie.spec
     walk-operations-requires
-    enum-told
     enum-known-w
+    enum-known-w-2
     returns
     sub-if2
     returns-2

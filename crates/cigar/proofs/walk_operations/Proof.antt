@@ -26,16 +26,22 @@ operation-at-requires c κs = omega arith
 unknown-requires : tie.Need-unknown-requires Inv-loop μ-loop
 unknown-requires c κs = search needs
 
+index-at-requires : tie.Need-index-at-requires Inv-loop μ-loop
+index-at-requires c κs =
+    let turn = c .before .before .before .before in
+    (turn .loop .inv .on, omega (arith, turn .loop .inv .low))
+
 returns : tie.Need-returns Inv-loop μ-loop
 returns c =
-    let by-operation-at = c .before .before in
+    let by-if1 = c .before in
+    let by-operation-at = by-if1 .before .before in
     let turn = by-operation-at .before .before in
     let entry = turn .before .before in
     let args = entry .args in
     let loop = turn .loop in
     walking-code (now (args .s)) (args .from) (args .end) (entry .pre .1) (loop .at) (loop .read) (loop .reference) (loop .inv)
-    (by-operation-at .operation-at .result) (omega arith) (by-operation-at .operation-at .ensures .0)
-    (c .before .unknown .ensures .0 (c .if1 .taken))
+    (by-operation-at .operation-at .result) (omega arith) (by-operation-at .operation-at .ensures .0) (c .index-at .result)
+    (c .index-at .ensures) (by-if1 .before .unknown .ensures .0 (by-if1 .if1 .taken))
 
 read-len-requires : tie.Need-read-len-requires Inv-loop μ-loop
 read-len-requires c κs = search needs
@@ -90,6 +96,7 @@ walk-operations-spec =
     sub-loop
     operation-at-requires
     unknown-requires
+    index-at-requires
     returns
     read-len-requires
     add-read

@@ -98,16 +98,16 @@ judge-requires c κs =
 enum-known-judged : tie.Need-enum-known-judged
 enum-known-judged c = search needs
 
-enum-told-3 : tie.Need-enum-told-3
-enum-told-3 c = search needs
-
 enum-known-judged-2 : tie.Need-enum-known-judged-2
 enum-known-judged-2 c = search needs
 
+enum-known-judged-3 : tie.Need-enum-known-judged-3
+enum-known-judged-3 c = search needs
+
 call-both-requires : tie.Need-call-both-requires
 call-both-requires c κs =
-    let by-judged2 = c .before .before .before in
-    let by-judge = by-judged2 .before .before in
+    let by-judged3 = c .before .before .before in
+    let by-judge = by-judged3 .before .before in
     let by-checked2 = by-judge .before .before .before .before in
     let by-check-record2 = by-checked2 .before .before in
     let by-checked1 = by-check-record2 .before .before .before in
@@ -126,7 +126,7 @@ call-both-requires c κs =
         place₁ = 1;
         place₂ = 2;
         both
-            = sym (by-judge .judge .ensures) ∙ by-judged2 .judged2 .given .1;
+            = sym (by-judge .judge .ensures) ∙ by-judged3 .judged3 .given .1;
       },
       room-less (args .stats) 131072 _ (omega arith) (full-room (args .stats) (sym (by-full .full .ensures) ∙ by-if1 .if1 .left)),
     )
@@ -162,7 +162,7 @@ same-length-7 c = search needs
 
 returns-5 : tie.Need-returns-5
 returns-5 c =
-    let by-judge = c .before .before in
+    let by-judge = c .before .before .before in
     let by-checked2 = by-judge .before .before .before .before in
     let by-check-record2 = by-checked2 .before .before in
     let by-checked1 = by-check-record2 .before .before .before in
@@ -175,7 +175,7 @@ returns-5 c =
     (by-checked1 .checked1 .given .0 .0) (sym (by-check-record .check-record .ensures) ∙ by-checked1 .checked1 .given .1)
     (by-checked2 .checked2 .given .0 .0) (by-judge .judge .result) _
     (sym (by-check-record2 .check-record2 .ensures) ∙ by-checked2 .checked2 .given .1) (by-judge .judge .ensures)
-    (c .enum-told3 .given .1)
+    (c .before .judged2 .given .1)
 
 same-length-8 : tie.Need-same-length-8
 same-length-8 c = search needs
@@ -186,8 +186,8 @@ same-length-9 c = search needs
 returns-6 : tie.Need-returns-6
 returns-6 c =
     let by-call-both = c .before .before .before .before in
-    let by-judged2 = by-call-both .before .before .before .before in
-    let by-judge = by-judged2 .before .before in
+    let by-judged3 = by-call-both .before .before .before .before in
+    let by-judge = by-judged3 .before .before in
     let by-checked2 = by-judge .before .before .before .before in
     let by-check-record2 = by-checked2 .before .before in
     let by-checked1 = by-check-record2 .before .before .before in
@@ -200,7 +200,7 @@ returns-6 c =
     (sym (by-full .full .ensures) ∙ by-if1 .if1 .left) (by-checked1 .checked1 .given .0 .0)
     (sym (by-check-record .check-record .ensures) ∙ by-checked1 .checked1 .given .1) (by-checked2 .checked2 .given .0 .0)
     (by-judge .judge .result) _ (sym (by-check-record2 .check-record2 .ensures) ∙ by-checked2 .checked2 .given .1)
-    (by-judge .judge .ensures) (by-judged2 .judged2 .given .1)
+    (by-judge .judge .ensures) (by-judged3 .judged3 .given .1)
 
 pub call-spec : {M : Type 1} → statement M
 call-spec =
@@ -223,8 +223,8 @@ call-spec =
     returns-3
     judge-requires
     enum-known-judged
-    enum-told-3
     enum-known-judged-2
+    enum-known-judged-3
     call-both-requires
     same-length-4
     same-length-5

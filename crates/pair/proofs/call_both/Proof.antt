@@ -1,8 +1,6 @@
 -- `pair::call_both` meets its contract. Assumes nothing.
-use mathlib.Core.Path.{ap₂}
-use Rattle.pair_merge.specs.Shared.{shared}
-use Rattle.pair.specs.Pair.{outcome}
-use Rattle.pair.proofs.CallLaws.{none-met, some-met}
+use Rattle.positions.specs.Step.{state}
+use Rattle.pair.proofs.CallLaws.{both-none, both-some}
 use denote.Ref.{now}
 use borrow.Author.Needs.{needs}
 use Rattle.pair.proofs.call_both.Statement.{statement}
@@ -10,6 +8,9 @@ use Rattle.pair.proofs.call_both.Tie as tie
 
 treat-requires : tie.Need-treat-requires
 treat-requires c κs = search needs
+
+unshared-requires : tie.Need-unshared-requires
+unshared-requires c κs = search needs
 
 same-length : tie.Need-same-length
 same-length c = search needs
@@ -19,10 +20,12 @@ same-length-2 c = search needs
 
 returns : tie.Need-returns
 returns c =
-    let by-treat = c .before .before .before .before .before .before .before in
+    let by-if1 = c .before in
+    let by-treat = by-if1 .before .before .before .before .before .before .before in
     let entry = by-treat .before .before .before .before .before in
     let args = entry .args in
-    ap₂ outcome (none-met (shared (args .a .layout) (args .b .layout) (args .a .extent .start) (args .b .extent .start) (now (args .first)) (now (args .second))) (by-treat .treat .result .shared) (by-treat .treat .ensures .counted) (c .if1 .taken)) (by-treat .treat .ensures .after)
+    both-none (args .w) (state (now (args .first)) (now (args .second)) (args .stats)) (args .a .layout) (args .b .layout) (args .a .extent) (args .b .extent) _
+    (by-treat .treat .result .shared) (by-treat .treat .ensures) (c .unshared .result) (c .unshared .ensures) (by-if1 .if1 .taken)
 
 same-length-3 : tie.Need-same-length-3
 same-length-3 c = search needs
@@ -35,13 +38,15 @@ returns-2 c =
     let by-treat = c .before .before .before .before .before .before .before in
     let entry = by-treat .before .before .before .before .before in
     let args = entry .args in
-    ap₂ outcome (some-met (shared (args .a .layout) (args .b .layout) (args .a .extent .start) (args .b .extent .start) (now (args .first)) (now (args .second))) (by-treat .treat .result .shared) (by-treat .treat .ensures .counted) (c .if1 .left)) (by-treat .treat .ensures .after)
+    both-some (args .w) (state (now (args .first)) (now (args .second)) (args .stats)) (args .a .layout) (args .b .layout) (args .a .extent) (args .b .extent) _
+    (by-treat .treat .result .shared) (by-treat .treat .ensures) (entry .pre .0) (c .if1 .left)
 
 pub call-both-spec : {M : Type 1} → statement M
 call-both-spec =
     tie.close
     (tie.spec
     treat-requires
+    unshared-requires
     same-length
     same-length-2
     returns

@@ -79,7 +79,7 @@ returns-3 c =
     let entry = by-if1 .before .before .before .before in
     let args = entry .args in
     let counts = now (args .counts) in
-    called-none counts (outcome (by-call .call .result .answer) (state _ _ (by-call .call .result .stats))) (c .enum-told2 .given .1)
+    called-none counts (outcome (by-call .call .result .answer) (state _ _ (by-call .call .result .stats))) _ (c .enum-told2 .given .1)
     ∙ called-as (now (args .first)) (now (args .second)) (args .agreement) (args .disagreement) counts (by-if1 .if1 .left)
     (by-by-number .by-number .result) (by-by-number .by-number .ensures) _ (by-counts-at .counts-at .result) _
     (by-numbered .numbered .given .1) (by-counts-at .counts-at .ensures) (by-call .call .ensures)

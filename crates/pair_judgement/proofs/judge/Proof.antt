@@ -1,6 +1,6 @@
 -- `pair_judgement::judge` meets its contract. Assumes nothing.
 use mathlib.Core.Path.{_∙_}
-use Rattle.pair_judgement.proofs.JudgeLaws.{judged-as, first-span, second-span, both-spans}
+use Rattle.pair_judgement.proofs.JudgeLaws.{judged-apart, first-span, second-span, both-spans}
 use denote.Ref.{now}
 use borrow.Author.Needs.{needs}
 use Rattle.pair_judgement.proofs.judge.Statement.{statement}
@@ -15,13 +15,17 @@ enum-known-at c = search needs
 enum-told : tie.Need-enum-told
 enum-told c = search needs
 
+apart-requires : tie.Need-apart-requires
+apart-requires c κs = search needs
+
 returns : tie.Need-returns
 returns c =
-    let by-locate = c .before .before in
+    let by-enum-told = c .before in
+    let by-locate = by-enum-told .before .before in
     let entry = by-locate .before .before .before in
     let args = entry .args in
-    judged-as (args .y) (args .z) (now (args .first)) (now (args .second)) (args .place1) (args .place2) (by-locate .locate .result)
-    (by-locate .locate .ensures) _ (c .enum-told .given .1)
+    c .apart .ensures ∙ judged-apart (args .y) (args .z) (now (args .first)) (now (args .second)) (args .place1) (args .place2)
+    (by-locate .locate .result) (by-locate .locate .ensures) _ _ (by-enum-told .enum-told .given .1)
 
 span-of-requires : tie.Need-span-of-requires
 span-of-requires c κs = search needs
@@ -37,14 +41,15 @@ unplaced-requires c κs = search needs
 
 returns-2 : tie.Need-returns-2
 returns-2 c =
-    let by-span-of = c .before .before .before in
+    let by-enum-told2 = c .before in
+    let by-span-of = by-enum-told2 .before .before in
     let by-at = by-span-of .before .before in
     let by-locate = by-at .before .before in
     let entry = by-locate .before .before .before in
     let args = entry .args in
     c .unplaced .ensures ∙ first-span (args .y) (args .z) (now (args .first)) (now (args .second)) (args .place1) (args .place2)
     (by-locate .locate .result) (by-locate .locate .ensures) (by-at .at .given .0 .0) (by-at .at .given .0 .1 .0) (by-at .at .given .1)
-    (by-span-of .span-of .result) _ (by-span-of .span-of .ensures) (c .before .enum-told2 .given .1)
+    (by-span-of .span-of .result) _ (by-span-of .span-of .ensures) (by-enum-told2 .enum-told2 .given .1)
 
 span-of-requires-2 : tie.Need-span-of-requires-2
 span-of-requires-2 c κs = search needs
@@ -60,7 +65,8 @@ unplaced-requires-2 c κs = search needs
 
 returns-3 : tie.Need-returns-3
 returns-3 c =
-    let by-span-of2 = c .before .before .before in
+    let by-enum-told3 = c .before in
+    let by-span-of2 = by-enum-told3 .before .before in
     let by-span1 = by-span-of2 .before .before in
     let by-span-of = by-span1 .before .before in
     let by-at = by-span-of .before .before in
@@ -70,21 +76,22 @@ returns-3 c =
     c .unplaced2 .ensures ∙ second-span (args .y) (args .z) (now (args .first)) (now (args .second)) (args .place1) (args .place2)
     (by-locate .locate .result) (by-locate .locate .ensures) (by-at .at .given .0 .0) (by-at .at .given .0 .1 .0) (by-at .at .given .1) _
     (by-span-of .span-of .result) (by-span-of2 .span-of2 .result) _ (by-span-of .span-of .ensures) (by-span1 .span1 .given .1)
-    (by-span-of2 .span-of2 .ensures) (c .before .enum-told3 .given .1)
+    (by-span-of2 .span-of2 .ensures) (by-enum-told3 .enum-told3 .given .1)
 
 returns-4 : tie.Need-returns-4
 returns-4 c =
-    let by-span-of2 = c .before .before .before in
+    let by-span2 = c .before in
+    let by-span-of2 = by-span2 .before .before in
     let by-span1 = by-span-of2 .before .before in
     let by-span-of = by-span1 .before .before in
     let by-at = by-span-of .before .before in
     let by-locate = by-at .before .before in
     let entry = by-locate .before .before .before in
     let args = entry .args in
-    both-spans (args .y) (args .z) (now (args .first)) (now (args .second)) (args .place1) (args .place2) (by-locate .locate .result)
-    (by-locate .locate .ensures) (by-at .at .given .0 .0) (by-at .at .given .0 .1 .0) (by-at .at .given .1) _ _
+    both-spans (args .y) (args .z) (now (args .first)) (now (args .second)) (args .place1) (args .place2)
+    (by-locate .locate .result) (by-locate .locate .ensures) (by-at .at .given .0 .0) (by-at .at .given .0 .1 .0) (by-at .at .given .1) _ _
     (by-span-of .span-of .result) (by-span-of2 .span-of2 .result) (by-span-of .span-of .ensures) (by-span1 .span1 .given .1)
-    (by-span-of2 .span-of2 .ensures) (c .before .span2 .given .1)
+    (by-span-of2 .span-of2 .ensures) (by-span2 .span2 .given .1)
 
 pub judge-spec : {M : Type 1} → statement M
 judge-spec =
@@ -93,6 +100,7 @@ judge-spec =
     locate-requires
     enum-known-at
     enum-told
+    apart-requires
     returns
     span-of-requires
     enum-known-span1

@@ -29,7 +29,7 @@ returns : tie.Need-returns
 returns c =
     let by-locate = c .before .before .before in
     let args = by-locate .before .before .before .before .before .args in
-    apart-met (now (args .first)) (now (args .second)) (by-locate .locate .result) (by-locate .locate .ensures) (c .before .enum-told .given .1)
+    apart-met (now (args .first)) (now (args .second)) (by-locate .locate .result) (by-locate .locate .ensures) _ (c .before .enum-told .given .1)
     (args .w) (args .g) (c .none-met .result .stats) (c .none-met .result .shared) (c .none-met .ensures)
 
 layout-of-requires : tie.Need-layout-of-requires

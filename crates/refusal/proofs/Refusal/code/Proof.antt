@@ -6,25 +6,11 @@ use Rattle.refusal.proofs.Refusal.code.Tie as tie
 row-requires : tie.Need-row-requires
 row-requires c κs = search needs
 
-cast-result : tie.Need-cast-result
-cast-result c = search needs
-
-mul-result : tie.Need-mul-result
-mul-result c = search needs
-
-add-result : tie.Need-add-result
-add-result c = search needs
-
-cast-result-2 : tie.Need-cast-result-2
-cast-result-2 c = search needs
-
-add-result-2 : tie.Need-add-result-2
-add-result-2 c = search needs
+code-requires : tie.Need-code-requires
+code-requires c κs = search needs
 
 returns : tie.Need-returns
-returns c = cc (c .before .before .row .ensures)
+returns c = cc (c .before .row .ensures, c .code .ensures .0)
 
 pub code-spec : {M : Type 1} → statement M
-code-spec =
-    tie.close
-    (tie.spec row-requires cast-result mul-result add-result cast-result-2 add-result-2 returns)
+code-spec = tie.close (tie.spec row-requires code-requires returns)
