@@ -5,7 +5,10 @@
  * a base it compares the two, writes the bases and qualities that the strategies give into both
  * records, in place, and counts what it did.
  *
- * overlap_filed_call does the same for every pair of a filed group: framed records and a trailer that
+ * overlap_reason_call says why two records don't overlap, by one of five reasons: one of them is unmapped, say, or
+ * there is a gap between them. It only reads.
+ *
+ * overlap_filed_call does as overlap_call for every pair of a filed group: framed records and a trailer that
  * says whether they were corrected. Given a group that was, it says so and writes nothing, so a job that
  * is sent again does no harm. overlap_trailer_call makes the trailer of a group that is to be filed.
  *
@@ -30,8 +33,9 @@ extern "C" {
 #define OVERLAP_COUNTS_SIZE 32
 #define OVERLAP_TRAILER_SIZE 50
 
-/* A stack that is enough for a thread that makes overlap_call or overlap_trailer_call; overlap_filed_call where
-   no record has over 1024 bytes; and overlap_filed_call on any input. Each holds what the thread takes for itself. */
+/* A stack that is enough for a thread that makes overlap_call, overlap_reason_call or overlap_trailer_call;
+   overlap_filed_call where no record has over 1024 bytes; and overlap_filed_call on any input. Each holds what the
+   thread takes for itself. */
 #define OVERLAP_STACK 16384
 #define OVERLAP_FILED_STACK 32768
 #define OVERLAP_FILED_LONG_STACK 163840
@@ -43,6 +47,13 @@ extern "C" {
 #define OVERLAP_DISAGREE_CONSENSUS 0
 #define OVERLAP_DISAGREE_MASK_BOTH 1
 #define OVERLAP_DISAGREE_MASK_LOWER_QUAL 2
+
+/* Why two records don't overlap: answers of overlap_reason_call, told there. */
+#define OVERLAP_REASON_UNMAPPED 1
+#define OVERLAP_REASON_REFERENCES_DIFFER 2
+#define OVERLAP_REASON_NEGATIVE_POSITION 3
+#define OVERLAP_REASON_NO_REFERENCE_LENGTH 4
+#define OVERLAP_REASON_NO_SHARED_POSITION 5
 
 /*
  * Arguments
@@ -72,7 +83,7 @@ extern "C" {
  *
  *   0      no overlap: at no reference position do both have a base, or one of them is unmapped
  *          (flag 4) or has a negative position, or their reference ids differ (two ids of -1 are
- *          equal)
+ *          equal). overlap_reason_call says which
  *   1      overlap: they share a position, even where every shared position holds an N
  *   other  refused: 1000 + 100 * place + number. The place is 1 or 2 for the record at fault, and
  *          0 where no record is. So 1107 is number 7 in the first record. These are all, each
@@ -117,7 +128,7 @@ extern "C" {
  *   that pointer. Let it be other than null there too: the callee takes a pointer and a length for
  *   a slice, as Rust does, and the pointer of a slice is not null even where the slice is empty.
  *
- *   All three calls: each allocates nothing, keeps nothing between calls and has no global state. Any
+ *   All four calls: each allocates nothing, keeps nothing between calls and has no global state. Any
  *   number of threads may make any of them at the same time, as long as no memory that one of them
  *   writes is passed to another.
  */
@@ -125,6 +136,51 @@ uint32_t overlap_call(uint8_t *first, size_t first_len,
                       uint8_t *second, size_t second_len,
                       uint32_t agreement, uint32_t disagreement,
                       uint8_t *counts, size_t counts_len);
+
+/*
+ * Why there is no overlap. It judges two records as overlap_call does, and where they don't overlap it
+ * says which of five reasons that has. It takes no strategies and no counts, so 9, 10 and 15 can't come.
+ *
+ *   first, second   Two BAM records, as for overlap_call. They are only read.
+ *
+ * Answer
+ *
+ *   0      overlap: there is no reason
+ *   1      OVERLAP_REASON_UNMAPPED: either record is unmapped (flag 4)
+ *   2      OVERLAP_REASON_REFERENCES_DIFFER: their reference ids differ (two ids of -1 are equal)
+ *   3      OVERLAP_REASON_NEGATIVE_POSITION: either has a negative position
+ *   4      OVERLAP_REASON_NO_REFERENCE_LENGTH: the M D N = X lengths of either total 0, as where it
+ *          has clips and insertions alone, or no operations
+ *   5      OVERLAP_REASON_NO_SHARED_POSITION: at no reference position do both have a base
+ *   other  refused: 1000 + 100 * place + number. The place is 1 or 2 for the record at fault, the
+ *          number 1 to 5, 7 or 8, as in the table of overlap_call. Number 5 adds 10000 * the index, from
+ *          0 on, of that record's first operation whose code is above 8. So 31205 is operation 3 of the
+ *          second record, and 1105 operation 0 of the first. In a refusal, answer % 10000 is what
+ *          overlap_call answers, and answer / 10000 the index, which is 0 with any number but 5. The
+ *          largest answer is 163751205.
+ *
+ * Order of judgement. The first that applies is the answer:
+ *
+ *   1. numbers 1 to 4 in the first record, then in the second: refused;
+ *   2. either unmapped: 1; then ids that differ: 2; then a negative position: 3;
+ *   3. numbers 5, 7 and 8 in the first record, then in the second: refused;
+ *   4. either without reference length: 4; then no shared position: 5. Else: 0.
+ *
+ * Beside overlap_call. For every two records, and whatever the strategies and counts, unless overlap_call
+ * answers 1009, 1010 or 1015: it answers 1 exactly when this call answers 0; it answers 0 exactly when this
+ * call answers 1 to 5; and else it answers this call's answer % 10000. That is proved.
+ *
+ * What is written: nothing, whatever the answer. So the call may be made before overlap_call or after it,
+ * on the records that were corrected, and answers the same, which is proved too: overlap_call writes none of
+ * the bytes that this call goes by.
+ *
+ * Memory and threads
+ *
+ *   As for overlap_call, but that both records are only read: they may overlap in memory or be the same
+ *   one, and several calls at the same time may be passed the same ones, as long as none of these writes them.
+ */
+uint32_t overlap_reason_call(const uint8_t *first, size_t first_len,
+                             const uint8_t *second, size_t second_len);
 
 /*
  * A filed group: frames end to end, each a 32-bit size and then a record of that many bytes, at most

@@ -1,4 +1,5 @@
-/* host.c: calls the overlap step on one read pair and prints both reads before and after. */
+/* host.c: calls the overlap step on one read pair and prints both reads before and after; then asks why the pair
+   doesn't overlap where it is moved apart. */
 #include "overlap.h"
 #include "overlap_text.h"
 #include <stdio.h>
@@ -29,6 +30,13 @@ static unsigned long long count(const uint8_t *p) {
     return n;
 }
 
+/* What stands in the way of an overlap, or that there is one. Nothing is changed by asking. */
+static void say_why(const char *when) {
+    char text[OVERLAP_TEXT_SIZE];
+    uint32_t reason = overlap_reason_call(first, sizeof first, second, sizeof second);
+    printf("%s: %s\n", when, overlap_text(OVERLAP_OF_REASON, reason, text));
+}
+
 int main(void) {
     uint8_t counts[OVERLAP_COUNTS_SIZE] = { 0 };
     char text[OVERLAP_TEXT_SIZE];
@@ -40,5 +48,10 @@ int main(void) {
     show("second after       ", second);
     printf("%s: %llu positions, %llu agreeing, %llu disagreeing, %llu corrected\n", overlap_text(OVERLAP_OF_PAIR, answer, text),
            count(counts), count(counts + 8), count(counts + 16), count(counts + 24));
+
+    second[4] = 50;                                                   /* pos */
+    say_why("the second at position 51");
+    second[14] |= 4;                                                  /* flags */
+    say_why("the second unmapped");
     return answer > 1;
 }

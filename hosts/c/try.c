@@ -1,14 +1,15 @@
 /* try.c: tries one input that is written in hexadecimal.
  *
  *   try pair AGREEMENT DISAGREEMENT COUNTS FIRST SECOND    calls the step on a pair
- *   try filed OUT_LEN COUNTS FILED                         calls it on a filed group
+ *   try reason FIRST SECOND                                asks why a pair doesn't overlap
+ *   try filed OUT_LEN COUNTS FILED                         calls the step on a filed group
  *   try trailer AGREEMENT DISAGREEMENT FRAMES              writes the raw trailer of framed records
  *   try bytes TEXT                                         writes the bytes, as input for a program
  *
  * Two digits make a byte and blanks don't count; 00*32 is 32 such bytes, (2A 00*3)*2 is a part
  * taken twice. `pair` prints the answer and, where a byte changed, both records and the counts;
- * `filed` the answer and, where a byte changed, the output, which begins as OUT_LEN zero bytes, and
- * the counts.
+ * `reason` the answer, and no byte may change; `filed` the answer and, where a byte changed, the
+ * output, which begins as OUT_LEN zero bytes, and the counts.
  */
 #include "overlap.h"
 #include "read_all.h"
@@ -84,13 +85,21 @@ static int try_pair(char **args) {
     return 0;
 }
 
+static int try_reason(char **args) {
+    Bytes *first = bytes(args[0]), *second = bytes(args[1]);
+    uint32_t answer = overlap_reason_call(first->at, first->len, second->at, second->len);
+    if (!same(first, bytes(args[0])) || !same(second, bytes(args[1]))) fail("try", "a record was changed, and only its reason asked");
+    printf("answer %u\n", answer);
+    return 0;
+}
+
 static int try_filed(char **args) {
     Bytes *out = bytes(""), *out_before = bytes(""), *counts = bytes(args[1]), *filed = bytes(args[2]);
     out->len = out_before->len = number(args[0]);
     if (out->len > ROOM) fail("try", "too long");
     uint32_t answer = overlap_filed_call(filed->at, filed->len, out->at, out->len, counts->at, counts->len);
-    printf("answer %u\n", answer);
     if (!same(filed, bytes(args[2]))) fail("try", "the filed group itself was changed");
+    printf("answer %u\n", answer);
     if (!same(out, out_before) || !same(counts, bytes(args[1]))) print("out", out), print("counts", counts);
     return 0;
 }
@@ -111,9 +120,11 @@ static int try_bytes(char **args) {
 
 int main(int argc, char **argv) {
     static const struct { const char *name; int args, (*run)(char **); } COMMANDS[] = {
-        { "pair", 5, try_pair }, { "filed", 3, try_filed }, { "trailer", 3, try_trailer }, { "bytes", 1, try_bytes } };
+        { "pair", 5, try_pair }, { "reason", 2, try_reason }, { "filed", 3, try_filed }, { "trailer", 3, try_trailer },
+        { "bytes", 1, try_bytes } };
     for (size_t i = 0; i < sizeof COMMANDS / sizeof COMMANDS[0]; i++)
         if (argc == 2 + COMMANDS[i].args && strcmp(argv[1], COMMANDS[i].name) == 0) return COMMANDS[i].run(argv + 2);
-    fail("try", "pair AGREEMENT DISAGREEMENT COUNTS FIRST SECOND, filed OUT_LEN COUNTS FILED, trailer AGREEMENT DISAGREEMENT FRAMES, or bytes TEXT");
+    fail("try", "pair AGREEMENT DISAGREEMENT COUNTS FIRST SECOND, reason FIRST SECOND, filed OUT_LEN COUNTS FILED, "
+                "trailer AGREEMENT DISAGREEMENT FRAMES, or bytes TEXT");
     return 2;
 }

@@ -28,6 +28,10 @@
          uint32_t agreement, uint32_t disagreement, uint8_t *counts, size_t counts_len),                          \
         (agreement, disagreement), (CHANGED(first), CHANGED(second), CHANGED(counts)),                            \
         (B(0), B(1), n[0], n[1], B(2)))                                                                           \
+    ROW(overlap_reason_call,                                                                                      \
+        (const uint8_t *first, size_t first_len, const uint8_t *second, size_t second_len),                       \
+        (0), (READ(first), READ(second)),                                                                         \
+        (B(0), B(1)))                                                                                             \
     ROW(overlap_filed_call,                                                                                       \
         (const uint8_t *filed, size_t filed_len, uint8_t *out, size_t out_len, uint8_t *counts, size_t counts_len), \
         (0), (READ(filed), CHANGED(out), CHANGED(counts)),                                                        \

@@ -1,6 +1,6 @@
-//! A Rust host: calls the step on one pair and prints what came out; then files the same pair, has it
-//! corrected, and sends it again.
-use overlap::{Agreement, Counts, Disagreement, Refusal, call, correct_filed, trailer};
+//! A Rust host: calls the step on one pair and prints what came out, and why the pair moved apart doesn't overlap;
+//! then files the same pair, has it corrected, and sends it again.
+use overlap::{Agreement, Counts, Disagreement, Refusal, call, correct_filed, reason, trailer};
 
 fn main() -> Result<(), Refusal> {
     // Four bases at positions 10 to 13 and four at 11 to 14, counted from 1.
@@ -16,6 +16,11 @@ fn main() -> Result<(), Refusal> {
     let answer = call(&mut first, &mut second, Agreement::Consensus, Disagreement::Consensus, &mut counts);
     show("after ", &first, &second);
     println!("{answer}, {counts:?}");
+
+    let apart = record(50, 129, [0x24, 0x11], [20, 30, 10, 40]);
+    println!("the second at position 51: {}", reason(&first, &apart));
+    let unmapped = record(50, 133, [0x24, 0x11], [20, 30, 10, 40]);
+    println!("the second unmapped: {}", reason(&first, &unmapped));
 
     let (mut once, mut again) = (vec![0; filed.len()], vec![0; filed.len()]);
     println!("filed: {}", correct_filed(&filed, &mut once, &mut counts));

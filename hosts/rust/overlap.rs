@@ -1,8 +1,9 @@
 //! The exported calls for Rust programs. include/overlap.h says what they do to the bytes.
 //!
 //! Nothing is checked here that the calls check themselves. What the types rule out before a call:
-//! what is written is borrowed mutably, so no two slices can overlap in memory; strategies are
-//! enums and counts are always 32 bytes, so refusals 10 and 15 can't come.
+//! what is written is borrowed mutably, so it can't overlap another slice in memory; strategies are
+//! enums and counts are always 32 bytes, so refusals 10 and 15 can't come. `reason` only reads, and
+//! may be passed one record twice.
 //!
 //! So the fault that a host in C has to assert against can't be written here. One buffer in two places,
 //! as in `correct_filed(&group, &mut group, ..)` or `call(&mut record, &mut record, ..)`, doesn't compile:
@@ -26,6 +27,13 @@ pub mod raw {
             disagreement: u32,
             counts: *mut u8,
             counts_len: usize,
+        ) -> u32;
+
+        pub fn overlap_reason_call(
+            first: *const u8,
+            first_len: usize,
+            second: *const u8,
+            second_len: usize,
         ) -> u32;
 
         pub fn overlap_filed_call(
@@ -88,7 +96,7 @@ pub enum Fault {
 /// What the step says of a pair.
 #[derive(Clone, Copy, Debug, PartialEq, Eq)]
 pub enum Answer {
-    /// Nothing was written.
+    /// Nothing was written. `reason` says why.
     NoOverlap,
     /// Shared positions hold the result and the counts have grown.
     Overlap,
@@ -131,6 +139,41 @@ pub fn call(
         1201..=1208 => Answer::Second(Fault::of(code - 1200)),
         _ => unreachable!("overlap_call answers no {code} here"),
     }
+}
+
+/// Why two records don't overlap. Where several of these hold, the first is said.
+#[derive(Clone, Copy, Debug, PartialEq, Eq)]
+pub enum Reason {
+    /// Either record is unmapped.
+    Unmapped = 1,
+    /// The records lie on different references.
+    ReferencesDiffer,
+    /// Either record has a negative position.
+    NegativePosition,
+    /// Either record has no operation that uses the reference, or only such of length 0.
+    NoReferenceLength,
+    /// At no reference position do both have a base.
+    NoSharedPosition,
+}
+
+/// What `reason` says of a pair.
+#[derive(Clone, Copy, Debug, PartialEq, Eq)]
+pub enum Why {
+    /// The pair overlaps.
+    Overlap,
+    /// It doesn't.
+    NoOverlap(Reason),
+    /// Refused for the first record. `Fault::OperationCode`, and no other, comes with the operation's index, from 0 on.
+    First { fault: Fault, operation: Option<u32> },
+    /// Refused for the second record, as above.
+    Second { fault: Fault, operation: Option<u32> },
+}
+
+/// Says why a pair doesn't overlap, before `call` or after it; nothing is written.
+pub fn reason(first: &[u8], second: &[u8]) -> Why {
+    // SAFETY: each pointer comes with the length of its own live borrow, and nothing is written.
+    let code = unsafe { raw::overlap_reason_call(first.as_ptr(), first.len(), second.as_ptr(), second.len()) };
+    Why::of(code)
 }
 
 /// A refusal by its number, and the index of the record at fault or 0; nothing was written.
@@ -204,6 +247,38 @@ impl Answer {
     }
 }
 
+impl Why {
+    /// The number that overlap_reason_call gave.
+    pub fn code(self) -> u32 {
+        match self {
+            Why::Overlap => 0,
+            Why::NoOverlap(reason) => reason as u32,
+            Why::First { fault, operation } => 1100 + fault as u32 + 10_000 * operation.unwrap_or(0),
+            Why::Second { fault, operation } => 1200 + fault as u32 + 10_000 * operation.unwrap_or(0),
+        }
+    }
+
+    fn of(code: u32) -> Why {
+        let (operation, code) = match code % 10_000 {
+            refused @ (1105 | 1205) => (Some(code / 10_000), refused),
+            _ => (None, code),
+        };
+        match code {
+            0 => Why::Overlap,
+            1..=5 => Why::NoOverlap(Reason::of(code)),
+            1101..=1108 => Why::First { fault: Fault::of(code - 1100), operation },
+            1201..=1208 => Why::Second { fault: Fault::of(code - 1200), operation },
+            _ => unreachable!("overlap_reason_call answers no {code}"),
+        }
+    }
+}
+
+impl fmt::Display for Why {
+    fn fmt(&self, f: &mut fmt::Formatter) -> fmt::Result {
+        f.pad(&text(Call::Reason, self.code()))
+    }
+}
+
 impl fmt::Display for Answer {
     fn fmt(&self, f: &mut fmt::Formatter) -> fmt::Result {
         f.pad(&text(Call::Pair, self.code()))
@@ -223,7 +298,7 @@ impl fmt::Display for FiledAnswer {
 impl fmt::Display for Refusal {
     fn fmt(&self, f: &mut fmt::Formatter) -> fmt::Result {
         let Refusal { number, place } = *self;
-        let found = text::refusal(Call::Filed, number, place).or_else(|| text::refusal(Call::Trailer, number, place));
+        let found = text::refusal(Call::Filed, number, place, 0).or_else(|| text::refusal(Call::Trailer, number, place, 0));
         f.pad(&found.unwrap_or_else(|| format!("number {number} at place {place} is no refusal of a group")))
     }
 }
@@ -233,6 +308,13 @@ impl std::error::Error for Refusal {}
 impl Refusal {
     fn of(code: u32) -> Refusal {
         Refusal { number: code % 100, place: (code - 1000) / 100 }
+    }
+}
+
+impl Reason {
+    fn of(number: u32) -> Reason {
+        use Reason::*;
+        [Unmapped, ReferencesDiffer, NegativePosition, NoReferenceLength, NoSharedPosition][number as usize - 1]
     }
 }
 

@@ -2,10 +2,14 @@
 
 const TABLE: &str = include_str!("../c/answers.def");
 
+/// So many operations fill the longest record.
+const OPERATIONS: u32 = 16_376;
+
 /// The call that gave an answer; a number means one thing from one call and another from another.
 #[derive(Clone, Copy, Debug, PartialEq, Eq)]
 pub enum Call {
     Pair,
+    Reason,
     Filed,
     Trailer,
 }
@@ -15,6 +19,7 @@ impl Call {
     fn key(self) -> &'static str {
         match self {
             Call::Pair => "PAIR",
+            Call::Reason => "REASON",
             Call::Filed => "FILED",
             Call::Trailer => "TRAILER",
         }
@@ -24,6 +29,7 @@ impl Call {
     fn name(self) -> &'static str {
         match self {
             Call::Pair => "overlap_call",
+            Call::Reason => "overlap_reason_call",
             Call::Filed => "overlap_filed_call",
             Call::Trailer => "overlap_trailer_call",
         }
@@ -32,9 +38,10 @@ impl Call {
 
 /// What an answer of this call means. One that the call never gives gets a text that says so.
 pub fn text(call: Call, answer: u32) -> String {
-    let found = match answer {
+    let operation = if call == Call::Reason { answer / 10_000 } else { 0 };
+    let found = match answer - 10_000 * operation {
         0..1000 => plain(call, answer).map(str::to_string),
-        _ => refusal(call, answer % 100, (answer - 1000) / 100),
+        code => refusal(call, code % 100, (code - 1000) / 100, operation),
     };
     found.unwrap_or_else(|| format!("answer {answer} is none of {}'s", call.name()))
 }
@@ -44,18 +51,24 @@ pub fn words(number: u32) -> Option<&'static str> {
     row(number).map(|(_, words)| words)
 }
 
-/// The text for a refusal of this call, if it refuses with this number at this place.
-pub(crate) fn refusal(call: Call, number: u32, place: u32) -> Option<String> {
+/// The text for a refusal of this call, if it refuses with this number at this place and, where it names one, at
+/// this operation; an operation is else 0.
+pub(crate) fn refusal(call: Call, number: u32, place: u32, operation: u32) -> Option<String> {
     let (parts, words) = row(number)?;
     let given = parts[2].split(" | ").any(|name| name == call.key());
     let record = match (parts[1], call, place) {
         ("NO_RECORD", _, 0) => String::new(),
-        ("RECORD", Call::Pair, 1) => ", first record".into(),
-        ("RECORD", Call::Pair, 2) => ", second record".into(),
+        ("RECORD", Call::Pair | Call::Reason, 1) => ", first record".into(),
+        ("RECORD", Call::Pair | Call::Reason, 2) => ", second record".into(),
         ("RECORD", Call::Filed | Call::Trailer, 0..256) | ("RECORD_256", _, 256) => format!(", record with index {place}"),
         _ => return None,
     };
-    given.then(|| format!("refused: {words} (number {number}{record})"))
+    let operation = match (call, number, operation) {
+        (Call::Reason, 5, 0..OPERATIONS) => format!(", operation with index {operation}"),
+        (_, _, 0) => String::new(),
+        _ => return None,
+    };
+    given.then(|| format!("refused: {words} (number {number}{record}{operation})"))
 }
 
 /// The words for an answer below 1000.
