@@ -4,7 +4,8 @@ against include/overlap.h.
 
     answers.py PROGRAM...     each says answers in words, as tests/c/answers.c and tests/answers.rs do
 
-Asked are all codes of the three calls, those that a call never gives with them, and every number alone."""
+Asked are all codes of the four calls, those that a call never gives with them, and every number alone. Of the codes
+with an operation's index in them, which overlap_reason_call gives, those are asked around some indexes."""
 import os, re, subprocess, sys
 
 os.chdir(os.path.join(os.path.dirname(os.path.abspath(__file__)), '..'))
@@ -24,13 +25,17 @@ def check(holds, fault):
 page = read('docs/REFUSALS.md')
 WORDS = {int(n): words for n, words in re.findall(r'(?m)^### Number (\d+): (.*)$', page)}
 PLAIN = {('pair', int(n)): words for n, words in re.findall(r'(?m)^### Answer (\d+): (.*)$', page)}
+REASONS = {int(n): words for n, words in re.findall(r'(?m)^### Reason (\d+): (.*)$', page)}
+PLAIN |= {('reason', 0): PLAIN['pair', 1]} | {('reason', n): f'no overlap: {words}' for n, words in REASONS.items()}
 PLAIN |= {('filed', int(n)): words for n, words in re.findall(r'(?m)^### Filed group, answer (\d+): (.*)$', page)}
 PLAIN |= {('trailer', 0): 'trailer made'}
-NAMES = {'pair': 'overlap_call', 'filed': 'overlap_filed_call', 'trailer': 'overlap_trailer_call'}
+NAMES = {'pair': 'overlap_call', 'reason': 'overlap_reason_call', 'filed': 'overlap_filed_call', 'trailer': 'overlap_trailer_call'}
+OPERATIONS = (65536 - 32) // 4   # as many fill the longest record
 
 
 def given():
-    """Every refusal that a call gives: call, number and place, and the words for the place."""
+    """Every refusal that a call gives, but for those of overlap_reason_call: call, number and place, and the words for
+    the place."""
     of_a_record = [1, 2, 3, 4, 5, 7, 8]   # 6 is withdrawn
     for number in of_a_record:
         yield 'pair', number, 1, ', first record'
@@ -43,13 +48,33 @@ def given():
     yield from (('pair', number, 0, '') for number in (9, 10, 15))
 
 
+def given_by_reason():
+    """Every refusal of overlap_reason_call: its code, its number, and the words for record and operation. They are those
+    for a pair, less 9, 10 and 15; number 5 has the operation's index in it."""
+    for call, number, place, record in given():
+        if call == 'pair' and place > 0:
+            for index in range(OPERATIONS if number == 5 else 1):
+                operation = f', operation with index {index}' if number == 5 else ''
+                yield 10000 * index + 1000 + 100 * place + number, number, record + operation
+
+
+def asked(call):
+    """The codes that are asked of a call."""
+    yield from range(30000)
+    yield from (65536, 10 ** 6, 2 ** 31, 2 ** 32 - 1)
+    if call == 'reason':
+        for index in 3, 9, 100, OPERATIONS - 1, OPERATIONS, 65535, 2 ** 32 // 10000:
+            yield from range(10000 * index, 10000 * index + 1400)
+
+
 def texts():
     """What is asked, and the text that is expected."""
     known = dict(PLAIN)
     known |= {(call, 1000 + 100 * place + number): f'refused: {WORDS[number]} (number {number}{record})'
               for call, number, place, record in given()}
+    known |= {('reason', code): f'refused: {WORDS[number]} (number {number}{where})' for code, number, where in given_by_reason()}
     for call in NAMES:
-        for code in [*range(30000), 65536, 10 ** 6, 2 ** 31, 2 ** 32 - 1]:
+        for code in asked(call):
             yield f'{call} {code}', known.get((call, code), f"answer {code} is none of {NAMES[call]}'s")
     for number in range(300):
         yield f'number {number}', WORDS.get(number, 'none')
@@ -57,7 +82,8 @@ def texts():
 
 def check_sources():
     table = {int(n) for n in re.findall(r'(?m)^REFUSAL\((\d+),', read('hosts/c/answers.def'))}
-    numbers = {int(n) for n in re.findall(r'Refusal::\w+(?:\(p\))? => Row \{\s*number: (\d+),', read('crates/refusal/src/lib.rt'))}
+    row = r'Refusal::\w+(?:\([\w, ]+\))? => Row(?:::plain\(| \{\s*number: )(\d+),'
+    numbers = {int(n) for n in re.findall(row, read('crates/refusal/src/lib.rt'))}
     withdrawn = {int(n) for n in re.findall(r'(?m)^REFUSAL\((\d+), .*"withdrawn: ', read('hosts/c/answers.def'))}
     check(withdrawn == {6}, f'the table has withdrawn {sorted(withdrawn)}')
     check(len(numbers) > 0 and numbers == table - withdrawn, f'crates/refusal has {sorted(numbers)}, the table {sorted(table)}')
@@ -66,9 +92,26 @@ def check_sources():
     declared = {int(code) for row in rows for code in row.split()}
     of_pair = {1000 + 100 * place + number for call, number, place, _ in given() if call == 'pair'}
     check(declared == of_pair, f'include/overlap.h has for a pair {sorted(declared)}, and not {sorted(of_pair)}')
+    check_reasons()
     room, = re.findall(r'#define OVERLAP_TEXT_SIZE (\d+)', read('hosts/c/overlap_text.h'))
     longest = max(len(text) for _, text in texts())
     check(longest < int(room), f'the longest text has {longest} bytes, and the room {room}')
+
+
+def check_reasons():
+    """The reasons by number and name: in the header, where each is defined and told, in the table, in hosts/rust, and in
+    crates/pair_judgement."""
+    header, rust = read('include/overlap.h'), read('hosts/rust/overlap.rs')
+    defined = [(int(n), name) for name, n in re.findall(r'(?m)^#define OVERLAP_REASON_(\w+) (\d+)$', header)]
+    told = [(int(n), name) for n, name in re.findall(r'(?m)^ \*   (\d+) +OVERLAP_REASON_(\w+): ', header)]
+    variants = re.findall(r'(?m)^    (\w+)(?: = 1)?,$', re.search(r'pub enum Reason \{(.*?)\n\}', rust, re.S).group(1))
+    table = [int(n) for n in re.findall(r'(?m)^ANSWER\(REASON, (\d+), "no overlap: ', read('hosts/c/answers.def'))]
+    check([n for n, _ in defined] == [1, 2, 3, 4, 5] and defined == told, f'include/overlap.h defines {defined} and tells {told}')
+    names = [name.title().replace('_', '') for _, name in defined]
+    proved = re.findall(r'Reason::(\w+) => (\d+),', read('crates/pair_judgement/src/lib.rt'))
+    check(variants == names, f'hosts/rust has the reasons {variants}')
+    check(proved == list(zip(names, '12345')), f'crates/pair_judgement has the reasons {proved}')
+    check(table == [n for n, _ in defined] == list(REASONS), f'docs/REFUSALS.md has the reasons {list(REASONS)}, the table {table}')
 
 
 def check_program(program):
@@ -85,5 +128,5 @@ check_sources()
 compared = sum(check_program(program) for program in sys.argv[1:])
 for fault in faults[:5]:
     print(fault)
-print(f'answers in words: {len(WORDS)} refusals, {compared} texts compared, {len(faults)} faults')
+print(f'answers in words: {len(WORDS)} refusals, {len(REASONS)} reasons, {compared} texts compared, {len(faults)} faults')
 sys.exit(1 if faults or compared == 0 else 0)

@@ -32,6 +32,7 @@ far=$(dirname "$ARCHIVE")
 trap 'rm -r "$far"' EXIT
 compile_c "$root/tests/c/far.c" "$out/wrong"
 fails "$out/wrong" pair "the call wrote beside a buffer"
+fails "$out/wrong" reason "the call wrote into a buffer that it may only read"
 fails "$out/wrong" filed "the call wrote into a buffer that it may only read"
 fails "$out/wrong" trailer "the server ended before it gave an answer"
 

@@ -67,21 +67,26 @@ test_borrows() {
     ways='Agreement::Consensus, Disagreement::Consensus'
     rust_with 'correct_filed(&a, &mut b, &mut counts)' || wrong "$(cat "$out/said")"
     rust_with "call(&mut a, &mut b, $ways, &mut counts)" || wrong "$(cat "$out/said")"
+    rust_with 'reason(&a, &a)' || wrong "$(cat "$out/said")"
     refused_by_rustc E0502 'correct_filed(&a, &mut a, &mut counts)'
     refused_by_rustc E0499 "call(&mut a, &mut a, $ways, &mut counts)"
-    echo "a Rust host with one buffer in two places doesn't compile"
+    echo "a Rust host with one buffer in two places doesn't compile, but for a reason, where both are only read"
 }
 
-# The answers in words, and that the test finds a word that is another.
+# The answers in words, and that the test finds a word that is another, and an index that no answer has.
+finds_broken() { # EDIT SAID: the texts after the edit differ, and one of them has SAID in it
+    mkdir -p "$out/broken"
+    for file in overlap_text.h answers.def; do sed "$1" "$root/hosts/c/$file" >"$out/broken/$file"; done
+    compile_test "$out/broken" answers.c "$out/broken/answers-c"
+    if python3 "$root/tests/answers.py" "$out/broken/answers-c" >"$out/said"; then wrong "not found by tests/answers.py: $1"; fi
+    grep -q "got: .*$2" "$out/said" || wrong "$1 isn't what is found: $(cat "$out/said")"
+}
 test_answers() { # PROGRAM...
     compile_test "$root/hosts/c" answers.c "$out/answers-c"
     python3 "$root/tests/answers.py" "$out/answers-c" "$@"
-    mkdir -p "$out/broken"
-    cp "$root/hosts/c/overlap_text.h" "$out/broken"
-    sed 's/record under 32 bytes/record under 33 bytes/' "$root/hosts/c/answers.def" >"$out/broken/answers.def"
-    compile_test "$out/broken" answers.c "$out/broken/answers-c"
-    if python3 "$root/tests/answers.py" "$out/broken/answers-c" >"$out/said"; then wrong "a broken word is not found"; fi
-    grep -q 'got: .*under 33 bytes' "$out/said" || wrong "the broken word isn't what is found: $(cat "$out/said")"
+    finds_broken 's/record under 32 bytes/record under 33 bytes/' 'under 33 bytes'
+    finds_broken 's/the references differ/the references are apart/' 'the references are apart'
+    finds_broken 's/16376u/16377u/' 'operation with index 16376'
 }
 
 test_cpp() {
@@ -90,6 +95,7 @@ test_cpp() {
     "$cxx" -std=c++17 -O2 -Wall -Wextra -Wpedantic -Werror -I "$root/include" -I "$root/hosts/c" "$root/tests/c/host.cpp" "$ARCHIVE" -o "$out/host-cpp"
     said=$("$out/host-cpp")
     [ "$said" = "no overlap
+no overlap: a read has no reference length
 refused: record under 32 bytes (number 1, second record)" ] || wrong "the host in C++ prints $said"
     echo "a host in C++ compiles and runs"
 }

@@ -1,12 +1,24 @@
 #!/bin/sh
-# Installs into a folder of its own, and there compiles the C host as a stranger would: by pkg-config over the
-# archive, and over a shared object made of it. Elsewhere than on x86-64 the installation has to be refused.
+# Looks at what the archive exports. Installs into a folder of its own, and there compiles the C host as a stranger
+# would: by pkg-config over the archive, and over a shared object made of it. Elsewhere than on x86-64 the installation
+# has to be refused.
 set -eu
 unset CDPATH
 . "$(dirname "$0")/../scripts/settings.sh"
 out=$root/target/install
 rm -rf "$out"
 mkdir -p "$out/far"
+
+# The calls that overlap.h declares, and no other name that could meet one of a host's.
+need "$ARCHIVE" "rt staticlib overlap_c"
+if command -v nm >/dev/null; then
+    declared=$(sed -n 's/^uint32_t \(overlap_[a-z_]*\)(.*/\1/p' "$root/include/overlap.h" | LC_ALL=C sort)
+    exported=$(nm -g --defined-only "$ARCHIVE" | sed -n 's/^[0-9a-f]* [A-Z] //p' | LC_ALL=C sort)
+    [ "$declared" = "$exported" ] || { printf 'overlap.h declares\n%s\nand the archive exports\n%s\n' "$declared" "$exported"; exit 1; }
+    echo "the archive exports the $(echo "$declared" | wc -l) calls that overlap.h declares, and nothing else"
+else
+    echo "NOT RUN: what the archive exports, as there is no nm"
+fi
 
 # The refusal, which any machine can play: one that says it is an Arm.
 printf '#!/bin/sh\necho aarch64\n' >"$out/far/uname"

@@ -1,6 +1,6 @@
 #!/bin/sh
-# Runs every box of docs/REFUSALS.md and compares: pairs and filed groups through the exported
-# calls, inputs through the programs.
+# Runs every box of docs/REFUSALS.md and compares: pairs, the reasons of pairs and filed groups through the
+# exported calls, inputs through the programs.
 #   tests/refusals.sh [PAGE]
 set -eu
 . "$(dirname "$0")/../scripts/settings.sh"
@@ -28,6 +28,11 @@ run_pair() {
     [ -z "$first_after" ] || want="${want}first $(plain "$first_after") second $(plain "$second_after") counts $(plain "$counts_after") "
     verdict "$want" "$("$try" pair "$agreement" "$disagreement" "$counts" "$first" "$second" | tr '\n' ' ')"
 }
+run_reason() { # the call on the pair has to say the same, less the reason and the operation's index
+    verdict "answer $answer" "$("$try" reason "$first" "$second")"
+    case $answer in 0) of_pair=1 ;; [1-5]) of_pair=0 ;; *) of_pair=$((answer % 10000)) ;; esac
+    verdict "answer $of_pair" "$("$try" pair 0 0 '00*32' "$first" "$second" | head -n 1)"
+}
 run_filed() { # of a corrected group, the box may leave out what becomes of the output and of the counts
     want="answer $answer " no_out='' no_counts=''
     [ -z "$out_after" ] || want="${want}out $(plain "$out_after") "
@@ -45,6 +50,7 @@ run_program() { # PROGRAM
 finish() { # the box is read: run it
     case $kind in
     pair) run_pair ;;
+    reason) run_reason ;;
     filed) run_filed ;;
     program) run_program "$PROGRAM" ;;
     program-filed) run_program "$PROGRAM_FILED" ;;
@@ -65,6 +71,7 @@ while IFS= read -r line; do
     yes,'pair '*)
         kind=pair counts=${line#*counts } ways=${line#pair }
         ways=${ways%% counts*} agreement=${ways%% *} disagreement=${ways#* } ;;
+    yes,reason) kind=reason ;;
     yes,'filed '*) kind=filed; counts=${line#*counts }; out_len=${line#filed }; out_len=${out_len%% counts*} ;;
     yes,'group '*) group=${line#group } ;;
     yes,'program '*) kind=program; input=${line#program } ;;

@@ -1,6 +1,6 @@
 /*
- * Says answers in words, for tests/answers.py: reads lines as `pair 1107`, `filed 0`, `trailer 1019` and, for the
- * number of a refusal alone, `number 7`; prints the text of each.
+ * Says answers in words, for tests/answers.py: reads lines as `pair 1107`, `reason 31205`, `filed 0`, `trailer 1019`
+ * and, for the number of a refusal alone, `number 7`; prints the text of each.
  */
 #include "overlap_text.h"
 
@@ -11,6 +11,8 @@ static const char *said(const char *what, uint32_t n, char *room)
 {
     if (strcmp(what, "pair") == 0)
         return overlap_text(OVERLAP_OF_PAIR, n, room);
+    if (strcmp(what, "reason") == 0)
+        return overlap_text(OVERLAP_OF_REASON, n, room);
     if (strcmp(what, "filed") == 0)
         return overlap_text(OVERLAP_OF_FILED, n, room);
     if (strcmp(what, "trailer") == 0)

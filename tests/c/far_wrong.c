@@ -7,6 +7,11 @@ uint32_t overlap_call(uint8_t *first, size_t first_len, uint8_t *second, size_t 
     first[first_len] = 0;                                    /* writes beside a buffer */
     return 0;
 }
+uint32_t overlap_reason_call(const uint8_t *first, size_t first_len, const uint8_t *second, size_t second_len) {
+    (void)first, (void)first_len;
+    ((uint8_t *)second)[second_len - 1] ^= 1;                /* writes into the last byte of a buffer that is to be read */
+    return 0;
+}
 uint32_t overlap_filed_call(const uint8_t *filed, size_t filed_len, uint8_t *out, size_t out_len,
                             uint8_t *counts, size_t counts_len) {
     (void)filed_len, (void)out, (void)out_len, (void)counts, (void)counts_len;

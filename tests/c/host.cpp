@@ -1,4 +1,5 @@
-// The headers as a host in C++ includes them: calls the step on two records that don't overlap, and on a refused one.
+// The headers as a host in C++ includes them: calls the step on two records that don't overlap, says why, and calls it
+// on a refused one.
 #include "overlap.h"
 #include "overlap_text.h"
 #include "apart.h"
@@ -14,6 +15,8 @@ int main()
         uint32_t answer = overlap_call(first, sizeof first, second, len, OVERLAP_AGREE_MAX_QUAL, OVERLAP_DISAGREE_MASK_BOTH,
                                        counts, sizeof counts);
         puts(overlap_text(OVERLAP_OF_PAIR, answer, text));
+        if (answer == 0)
+            puts(overlap_text(OVERLAP_OF_REASON, overlap_reason_call(first, sizeof first, second, len), text));
     }
     return overlap_apart(first, sizeof first, second, sizeof second) ? 0 : 1;
 }

@@ -50,7 +50,7 @@ static size_t put_filed(unsigned records, size_t len, unsigned agreement, unsign
 
 /* A call to be made: which one, on how much of `filed`, by which strategies; and what came of it. */
 struct job {
-    enum { PAIR, TRAILER, FILED } call;
+    enum { PAIR, REASON, TRAILER, FILED } call;
     size_t len;
     uint32_t agreement, disagreement, answer;
     uintptr_t top;
@@ -61,6 +61,7 @@ static void *make(void *of) {
     j->top = (uintptr_t)__builtin_frame_address(0);
     switch (j->call) {
     case PAIR: j->answer = overlap_call(filed, j->len, out, j->len, j->agreement, j->disagreement, counts, sizeof counts); break;
+    case REASON: j->answer = overlap_reason_call(filed, j->len, out, j->len); break;
     case TRAILER: j->answer = overlap_trailer_call(filed, j->len, j->agreement, j->disagreement, out, OVERLAP_TRAILER_SIZE); break;
     case FILED: j->answer = overlap_filed_call(filed, j->len, out, sizeof out, counts, sizeof counts); break;
     }
@@ -98,6 +99,24 @@ static size_t pairs(size_t len, size_t size) {
     return larger(most, used_by(&(struct job){PAIR, len, 0, 0, 0, 0}, size, 1105));
 }
 
+/* Why a pair of records of this length doesn't overlap: it does, is apart, has no reference length, and is refused. */
+static size_t reasons(size_t len, size_t size) {
+    struct job j = {REASON, len, 0, 0, 0, 0};
+    size_t most = 0;
+    for (int split = 0; split < 2; split++) {
+        put_record(filed, len, 0, split);
+        put_record(out, len, 1, split);
+        most = larger(most, used_by(&j, size, 0));
+        put(out + POS, 4, 1 << 20);
+        most = larger(most, used_by(&j, size, OVERLAP_REASON_NO_SHARED_POSITION));
+    }
+    put_record(out, len, 1, 0);
+    put(out + OPERATION_COUNT, 2, 0);
+    most = larger(most, used_by(&j, size, OVERLAP_REASON_NO_REFERENCE_LENGTH));
+    put(filed + OPERATIONS + 4 * 63, 4, 9);
+    return larger(most, used_by(&j, size, 10000 * 63 + 1105));
+}
+
 /* Filed groups of so many records of this length: raw under every pair of strategies, torn, and corrected before. */
 static size_t groups(unsigned records, size_t len, size_t size) {
     size_t most = 0, n = 0;
@@ -116,6 +135,7 @@ static void say(const char *call, size_t used, size_t size) {
 
 int main(void) {
     say("overlap_call", larger(pairs(400, OVERLAP_STACK), pairs(LONGEST, OVERLAP_STACK)), OVERLAP_STACK);
+    say("overlap_reason_call", larger(reasons(400, OVERLAP_STACK), reasons(LONGEST, OVERLAP_STACK)), OVERLAP_STACK);
     size_t n = put_filed(MOST_RECORDS, 1024, 0, 0) - OVERLAP_TRAILER_SIZE;
     say("overlap_trailer_call", used_by(&(struct job){TRAILER, n, 2, 2, 0, 0}, OVERLAP_STACK, 0), OVERLAP_STACK);
     say("overlap_filed_call, records of up to 1024 bytes",
