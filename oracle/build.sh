@@ -1,6 +1,6 @@
 #!/bin/sh
 # Builds target/oracle/judge: the published Rust, compiled unchanged where it stands, our judge
-# around it, and the archive that exports overlap_call.
+# around it, and the archive of the exported calls.
 #
 #   oracle/build.sh [PUBLISHED [ARCHIVE]]
 #

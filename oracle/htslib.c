@@ -7,7 +7,9 @@
  * pileup, bases and qualities from its readers; from these the rule of the paper, as tests/c/model.h
  * has it, is worked out and held against the bytes after the call, its answer and its counts. A second set has wrong
  * operation lengths and positions near the end: refusal 7 must come exactly where htslib calls
- * the lengths different, refusal 8 exactly where its end of the read is above 2,147,483,646.
+ * the lengths different, refusal 8 exactly where its end of the read is above 2,147,483,646. A third set has unmapped
+ * records, other references, negative positions and alignments without a base or without a length on the reference: what
+ * overlap_reason_call says of these, and of the first set, must be what htslib's flags, ids, positions, lengths and pileup say.
  *
  * Nearly half of the records have operations of length 0. Lengths and ends come from the whole record. The pileup has faults
  * of its own with them, so for the places it is given the record without them; on how many it places a base elsewhere
@@ -23,7 +25,8 @@
 
 enum { ROOM = 4096, SPAN = 4096, MOST_OPERATIONS = 64, LAST = 2147483646 };
 typedef struct { uint8_t at[ROOM]; size_t len; } Rec;
-typedef struct { Rec rec[2], after[2]; uint32_t ways[2], answer; uint64_t grown[4]; } Pair;
+typedef struct { Rec rec[2], after[2]; uint32_t ways[2], answer, reason; uint64_t grown[4]; } Pair;
+enum set { WELL_FORMED, AT_THE_LIMITS, WITH_REASONS };
 
 static void fail(long pair, const char *what) {
     fprintf(stderr, "FOUND at pair %ld: %s\n", pair, what);
@@ -93,12 +96,40 @@ static void make(Rec *r, int second, int damage) {
     append(r, 'N' | 'M' << 8 | 'C' << 16, 3), append(r, below(200), 1);
 }
 
+/* Puts another operation in the place of each that uses the reference, of the same length: a clip where it uses the read
+   too, and else padding, or what stood there where it may stay. */
+static void unplace(Rec *r, int gaps_stay) {
+    for (uint64_t k = 0; k < operation_count(r->at); k++) {
+        uint64_t op = operation_at(r->at, k), code = op % 16;
+        if (uses_reference(code) && (uses_read(code) || !gaps_stay))
+            put(r->at + NAME + r->at[NAME_LENGTH] + 4 * k, 4, op - code + (uses_read(code) ? BAM_CSOFT_CLIP : BAM_CPAD));
+    }
+}
+
+static void drop_operations(Rec *r) {
+    uint8_t *ops = r->at + NAME + r->at[NAME_LENGTH], *behind = ops + 4 * operation_count(r->at);
+    memmove(ops, behind, (size_t)(r->at + r->len - behind));
+    r->len -= (size_t)(behind - ops);
+    put(r->at + OPERATION_COUNT, 2, 0);
+}
+
+/* Gives a record what may keep it from an overlap, at times several at once. */
+static void set_aside(Rec *r) {
+    if (below(6) == 0) put(r->at + FLAGS, 2, number_at(r->at + FLAGS, 2) | BAM_FUNMAP);
+    if (below(4) == 0) put(r->at + REF_ID, 4, below(3) - 1);
+    if (below(6) == 0) put(r->at + POS, 4, UINT32_MAX);
+    if (below(4) == 0) unplace(r, below(2) == 0);
+    if (below(16) == 0) drop_operations(r);
+}
+
 /* ---- what htslib reads ---- */
 
 static void write_bam(const char *path, Pair *pairs, long n, int after) {
     FILE *f = fopen(path, "wb");
     Rec head = { "BAM\1", 4 };
-    append(&head, 0, 4), append(&head, 1, 4), append(&head, 2, 4), append(&head, 'r', 2), append(&head, INT32_MAX, 4);
+    append(&head, 0, 4), append(&head, 2, 4);
+    append(&head, 2, 4), append(&head, 'r', 2), append(&head, INT32_MAX, 4);
+    append(&head, 2, 4), append(&head, 's', 2), append(&head, INT32_MAX, 4);
     if (!f || fwrite(head.at, 1, head.len, f) != head.len) fail(0, "can't write");
     for (long i = 0; i < 2 * n; i++) {
         Rec *r = after ? &pairs[i / 2].after[i % 2] : &pairs[i / 2].rec[i % 2], size = { { 0 }, 0 };
@@ -141,12 +172,14 @@ static unsigned drop_zeros(bam1_t *b) {
 /* How many records had operations of length 0, and on how many of these the pileup differs when given them. */
 static long zeroed, elsewhere;
 
-/* base index + 1 at each reference position, from the record without its operations of length 0 */
+/* base index + 1 at each reference position, from the record without its operations of length 0; and on a reference, as the
+   pileup leaves out reads of none */
 static void sits(bam1_t *b, uint32_t *at) {
     static uint32_t whole[SPAN];
     bam1_t *without = bam_dup1(b);
     if (!without) fail(0, "no memory");
     unsigned dropped = drop_zeros(without);
+    without->core.tid = 0;
     piled(without, at);
     bam_destroy1(without);
     if (!dropped) return;
@@ -197,6 +230,19 @@ static void rule(bam1_t *x, bam1_t *y, const uint32_t *ways, uint32_t *answer, u
     }
 }
 
+/* The reason by what htslib says of both: flags, ids, positions and lengths, and whether its pileup has them overlap. */
+static uint32_t reason(bam1_t *x, bam1_t *y, const uint32_t *ways) {
+    uint32_t overlap;
+    uint64_t grown[4] = { 0, 0, 0, 0 };
+    if ((x->core.flag | y->core.flag) & BAM_FUNMAP) return OVERLAP_REASON_UNMAPPED;
+    if (x->core.tid != y->core.tid) return OVERLAP_REASON_REFERENCES_DIFFER;
+    if (x->core.pos < 0 || y->core.pos < 0) return OVERLAP_REASON_NEGATIVE_POSITION;
+    if (!bam_cigar2rlen((int)x->core.n_cigar, bam_get_cigar(x)) || !bam_cigar2rlen((int)y->core.n_cigar, bam_get_cigar(y)))
+        return OVERLAP_REASON_NO_REFERENCE_LENGTH;
+    rule(x, y, ways, &overlap, grown);
+    return overlap ? 0 : OVERLAP_REASON_NO_SHARED_POSITION;
+}
+
 static void same(bam1_t *x, bam1_t *y, long pair) {
     bam1_core_t c = x->core, d = y->core;
     if (c.pos != d.pos || c.tid != d.tid || c.flag != d.flag || c.n_cigar != d.n_cigar || c.l_qseq != d.l_qseq || c.qual != d.qual ||
@@ -205,20 +251,25 @@ static void same(bam1_t *x, bam1_t *y, long pair) {
     if (memcmp(x->data, y->data, (size_t)x->l_data)) fail(pair, "name, operations, bases, qualities or tags differ");
 }
 
-/* ---- the two sets ---- */
+/* ---- the three sets ---- */
 
-static Pair *called(long n, int damage) {
+/* Asks for the reason before the call and after it. */
+static Pair *called(long n, enum set set) {
     Pair *pairs = calloc((size_t)n, sizeof *pairs);
     if (!pairs) fail(0, "no memory");
     for (Pair *p = pairs; p < pairs + n; p++) {
         uint8_t counts[32] = { 0 };
         for (int k = 0; k < 2; k++) {
-            make(&p->rec[k], k, damage);
+            make(&p->rec[k], k, set == AT_THE_LIMITS);
+            if (set == WITH_REASONS) set_aside(&p->rec[k]);
             p->after[k] = p->rec[k];
             p->ways[k] = (uint32_t)below(3);
         }
+        p->reason = overlap_reason_call(p->rec[0].at, p->rec[0].len, p->rec[1].at, p->rec[1].len);
         p->answer = overlap_call(p->after[0].at, p->after[0].len, p->after[1].at, p->after[1].len,
                                  p->ways[0], p->ways[1], counts, sizeof counts);
+        if (overlap_reason_call(p->after[0].at, p->after[0].len, p->after[1].at, p->after[1].len) != p->reason)
+            fail(p - pairs, "the reason is another after the call");
         for (int k = 31; k >= 0; k--) p->grown[k / 8] = p->grown[k / 8] << 8 | counts[k];
     }
     return pairs;
@@ -238,7 +289,7 @@ static void close_reader(Reader r) {
 }
 
 static void well_formed(long n) {
-    Pair *pairs = called(n, 0);
+    Pair *pairs = called(n, WELL_FORMED);
     long tally[2] = { 0, 0 };
     write_bam("before.bam", pairs, n, 0);
     write_bam("after.bam", pairs, n, 1);
@@ -251,6 +302,7 @@ static void well_formed(long n) {
                 fail(i, "htslib can't read a record");
         rule(before.read[0], before.read[1], pairs[i].ways, &answer, grown);
         if (pairs[i].answer != answer) fail(i, "the answer differs");
+        if (pairs[i].reason != (answer ? 0 : OVERLAP_REASON_NO_SHARED_POSITION)) fail(i, "the reason differs");
         if (memcmp(pairs[i].grown, grown, sizeof grown)) fail(i, "the counts differ");
         for (int k = 0; k < 2; k++) same(before.read[k], after.read[k], i);
         tally[answer]++;
@@ -269,7 +321,7 @@ static uint32_t fault(int read, const bam1_t *b) {
 }
 
 static void at_the_limits(long n) {
-    Pair *pairs = called(n, 1);
+    Pair *pairs = called(n, AT_THE_LIMITS);
     long tally[100] = { 0 };
     write_bam("before.bam", pairs, n, 0);
     Reader before = reader("before.bam");
@@ -282,9 +334,32 @@ static void at_the_limits(long n) {
             if (!expected && number) expected = 1100 + 100 * k + number, tally[number]++;
         }
         if ((pairs[i].answer > 1 ? pairs[i].answer : 0) != expected) fail(i, "7 or 8 isn't where htslib's lengths and ends put it");
+        if (expected && pairs[i].reason != expected) fail(i, "the reason call has another refusal");
         if (expected && memcmp(pairs[i].rec, pairs[i].after, sizeof pairs[i].rec)) fail(i, "a refusal wrote");
     }
     printf("%ld pairs are refused as htslib's lengths (7: %ld) and ends (8: %ld) have it\n", n, tally[7], tally[8]);
+    close_reader(before);
+    free(pairs);
+}
+
+static void with_reasons(long n) {
+    Pair *pairs = called(n, WITH_REASONS);
+    long tally[6] = { 0 };
+    write_bam("before.bam", pairs, n, 0);
+    Reader before = reader("before.bam");
+    for (long i = 0; i < n; i++) {
+        for (int k = 0; k < 2; k++)
+            if (sam_read1(before.file, before.header, before.read[k]) < 0) fail(i, "htslib can't read a record");
+        uint32_t expected = reason(before.read[0], before.read[1], pairs[i].ways);
+        if (pairs[i].reason != expected) fail(i, "the reason isn't what htslib's flags, ids, positions, lengths and pileup give");
+        if (pairs[i].answer != (expected == 0)) fail(i, "the answer doesn't go with the reason");
+        tally[expected]++;
+    }
+    printf("%ld pairs have the reasons that htslib gives them: ", n);
+    printf("none %ld, unmapped %ld, references %ld, negative %ld, no length %ld, no shared position %ld\n", tally[0], tally[1], tally[2],
+           tally[3], tally[4], tally[5]);
+    for (int k = 0; k < 6; k++)
+        if (!tally[k] && n >= 1000) fail(n, "a reason never came");
     close_reader(before);
     free(pairs);
 }
@@ -298,5 +373,6 @@ int main(int argc, char **argv) {
     show_pileups();
     well_formed(strtol(argv[2], NULL, 10));
     at_the_limits(strtol(argv[2], NULL, 10));
+    with_reasons(strtol(argv[2], NULL, 10));
     return 0;
 }

@@ -1,12 +1,12 @@
 #!/bin/sh
-# The exported call and the program against the published Rust and a model of the paper's rules.
+# The exported calls on a pair and the program against the published Rust and a model of the paper's rules.
 #
 #   scripts/differential.sh [gate|pairs|groups|full|lists] [SEED] [FOLDER]
 #
 # gate   (default) a fresh run of about a minute; SEED is the time unless given, and is printed
 # pairs  the part of it that needs the archive alone
 # groups the other part, which needs the program; the judge is as `pairs` built it
-# full   the same at length: 193 million pairs and 120,000 groups in six to twelve minutes
+# full   the same at length: 194 million pairs and 120,000 groups in six to twelve minutes
 # lists  all lists of up to three operations of lengths 1 and 2 in both reads: 225 million pairs
 #
 # FOLDER is that of the published Rust (default ../shared/docs/src beside the repository). Where
@@ -48,6 +48,7 @@ if [ "$size" != groups ]; then
     "$judge" random "$seed" "$pairs"
     "$judge" damaged "$seed" "$few"
     "$judge" extremes "$seed" "$few"
+    "$judge" codes "$seed" $((few / 3))
     "$judge" short 3 3 1 "$seed"
     "$judge" short 2 2 2 "$seed"
     "$judge" zeros 4 $mates "$seed"

@@ -1,6 +1,6 @@
 # shellcheck shell=sh
 # Read by the other scripts: where things are. Each may be set from outside.
-#   ARCHIVE        the static library that exports overlap_call and the calls on filed groups
+#   ARCHIVE        the static library that exports the calls of include/overlap.h
 #   PROGRAM        the program `overlap`
 #   PROGRAM_FILED  the program `overlap_filed`
 #   PUBLISHED      the folder of the published Rust, with crates/fgumi-consensus in it

@@ -30,12 +30,13 @@ def first_fault(log):
 def function_at(log, edit):
     """The function of a note, which gives only a line of the source."""
     source, line = re.search(r'(?m)^note: (\S*?/src/\S+?\.rt):(\d+):', log).groups()
-    names = []
+    names, line = [], int(line)
     with open(source, encoding='utf-8') as f:
         for n, text in enumerate(f, 1):
             found = re.match(r'\s*(?:pub )?(?:extern "C" )?fn (\w+)', text)
-            if found and (n <= int(line) or not names):
+            if found and (n <= line or not names):
                 names.append(found.group(1))
+            line += n == line and text.startswith('#[')   # an exported function begins with what marks it
     return names[-1]
 
 

@@ -1,7 +1,7 @@
-//! The exported call, on copies of a case that stand between guard bytes at any alignment.
+//! The exported calls on a pair, on copies of a case that stand between guard bytes at any alignment.
 use crate::record::Case;
-use overlap::raw::overlap_call;
-use overlap::{Agreement, Answer, Counts, Disagreement, Fault};
+use overlap::raw::{overlap_call, overlap_reason_call};
+use overlap::{Agreement, Answer, Counts, Disagreement, Fault, Reason, Why};
 
 const GUARD: u8 = 0xA5;
 
@@ -56,20 +56,28 @@ impl After {
     }
 }
 
-/// Calls on copies of the case. `turn` moves the copies through the alignments.
-pub fn call(case: &Case, turn: u64) -> Result<After, &'static str> {
+/// Calls on copies of the case, and asks for the reason in the same buffers: before the call in one turn,
+/// after it in the next. `turn` also moves the copies through the alignments.
+pub fn call(case: &Case, turn: u64) -> Result<(After, u32), &'static str> {
     let shift = |by: u64| 16 + (by % 8) as usize;
     let mut first = Lent::new(&case.first, shift(turn));
     let mut second = Lent::new(&case.second, shift(turn / 8));
     let mut counts = Lent::new(&case.counts, shift(turn / 64));
     // SAFETY: three buffers of their own, each with its length.
-    let answer = unsafe {
+    let (answer, reason) = unsafe {
         let (a, b, c) = (first.pointer(), second.pointer(), counts.pointer());
-        overlap_call(a, first.len, b, second.len, case.agreement, case.disagreement, c, counts.len)
+        let step = || overlap_call(a, first.len, b, second.len, case.agreement, case.disagreement, c, counts.len);
+        let ask = || overlap_reason_call(a, first.len, b, second.len);
+        if turn % 2 == 0 {
+            let reason = ask();
+            (step(), reason)
+        } else {
+            (step(), ask())
+        }
     };
     match (first.back(), second.back(), counts.back()) {
-        (Some(first), Some(second), Some(counts)) => Ok(After { answer, first, second, counts }),
-        _ => Err("the call wrote beside a buffer"),
+        (Some(first), Some(second), Some(counts)) => Ok((After { answer, first, second, counts }, reason)),
+        _ => Err("a call wrote beside a buffer"),
     }
 }
 
@@ -89,6 +97,26 @@ pub fn wrapped(case: &Case) -> Option<After> {
         Answer::Second(fault) => 1200 + number(fault),
     };
     Some(After { answer, first, second, counts: counts.to_bytes().to_vec() })
+}
+
+/// The reason through the safe wrapper, as `overlap_reason_call` gives it.
+pub fn wrapped_reason(case: &Case) -> u32 {
+    // an operation's index comes with its fault, and with no other
+    let refused = |fault, operation| match (fault, operation) {
+        (Fault::OperationCode, Some(index)) => 10_000 * index + 5,
+        (Fault::OperationCode, None) | (_, Some(_)) => 99,
+        (fault, None) => number(fault),
+    };
+    match overlap::reason(&case.first, &case.second) {
+        Why::Overlap => 0,
+        Why::NoOverlap(Reason::Unmapped) => 1,
+        Why::NoOverlap(Reason::ReferencesDiffer) => 2,
+        Why::NoOverlap(Reason::NegativePosition) => 3,
+        Why::NoOverlap(Reason::NoReferenceLength) => 4,
+        Why::NoOverlap(Reason::NoSharedPosition) => 5,
+        Why::First { fault, operation } => 1100 + refused(fault, operation),
+        Why::Second { fault, operation } => 1200 + refused(fault, operation),
+    }
 }
 
 fn number(fault: Fault) -> u32 {

@@ -23,7 +23,7 @@ enum Does {
 pub struct Known {
     title: &'static str,
     pub case: Case,
-    /// What the paper and the call answer.
+    /// What the paper and `overlap_call` answer.
     answer: u32,
     with_checks: Does,
     without: Does,
@@ -157,9 +157,9 @@ pub fn run() {
     let mut tally = Tally::default();
     for known in accepted().into_iter().chain(refused()) {
         println!("{}\n  judge one {}", known.title, spelled(&known.case));
-        let answer = check(&known.case, &mut tally).code();
-        println!("  the paper and the call: {answer}");
-        assert_eq!(answer, known.answer);
+        let answer = check(&known.case, &mut tally);
+        println!("  the paper and the calls: {}, reason {}", answer.code(), answer.reason());
+        assert_eq!(answer.code(), known.answer);
         for (build, run, expected) in [
             ("with checks", published::checked::pair as PairRun, known.with_checks),
             ("without checks", published::plain::pair, known.without),

@@ -1,6 +1,6 @@
-//! One case, all sides: the exported call against the model, and on accepted input the published
+//! One case, all sides: the exported calls against the model, and on accepted input the published
 //! Rust, in both builds, as the judge. What differs must belong to a known class.
-use crate::call::{After, call, wrapped};
+use crate::call::{After, call, wrapped, wrapped_reason};
 use crate::model::{self, Answer};
 use crate::published::{self, Ended, PairRun};
 use crate::record::{Case, hex, pack, unpack, uses};
@@ -82,6 +82,10 @@ pub struct Tally {
     pub known: BTreeMap<(Class, String), (u64, Case)>,
     /// What the Rust without checks does where we refuse, by our number: no, yes, panic.
     pub on_refused: BTreeMap<u32, [u64; 3]>,
+    /// Records that overlap (0), and that do not, by the reason. Strategies and counts don't matter here.
+    pub reasons: [u64; 6],
+    /// Records that are refused as 5, by place and by the operation's index.
+    pub operations: BTreeMap<(u32, u32), u64>,
 }
 
 impl Tally {
@@ -89,6 +93,14 @@ impl Tally {
         println!("{what}: {} cases, none that differs outside the known classes", self.cases);
         let answers: Vec<String> = self.answers.iter().map(|(a, n)| format!("{a}: {n}")).collect();
         println!("  answers  {}", answers.join("  "));
+        let reasons: Vec<String> = self.reasons.iter().enumerate().map(|(k, n)| format!("{k}: {n}")).collect();
+        println!("  reasons  {}", reasons.join("  "));
+        for place in [1, 2] {
+            let found: Vec<u32> = self.operations.keys().filter(|at| at.0 == place).map(|at| at.1).collect();
+            if let Some(last) = found.last() {
+                println!("  refused as 5 at place {place}: {} indexes of operations, the last {last}", found.len());
+            }
+        }
         println!("  accepted and equal with both builds of the published Rust: {}", self.equal);
         for ((class, what), (n, _)) in &self.known {
             println!("  known class {class:?}, {what}: {n}");
@@ -102,6 +114,35 @@ impl Tally {
     pub fn print_smallest(&self) {
         for ((class, what), (_, case)) in &self.known {
             println!("  {class:?}, {what}: judge one {}", spelled(case));
+        }
+    }
+
+    /// Ends the run unless the pairs had all five reasons, and overlaps among them.
+    pub fn expect_reasons(&self) {
+        if let Some(reason) = self.reasons.iter().position(|&n| n == 0) {
+            eprintln!("FOUND: no pair had the reason {reason}");
+            std::process::exit(1);
+        }
+    }
+
+    /// Ends the run unless refusal 5 was given for so many operations of each record.
+    pub fn expect_operations(&self, least: usize) {
+        for place in [1, 2] {
+            let found = self.operations.keys().filter(|at| at.0 == place).count();
+            if found < least {
+                eprintln!("FOUND: refused as 5 at place {place} with {found} indexes of operations and not {least}");
+                std::process::exit(1);
+            }
+        }
+    }
+
+    fn count_reason(&mut self, of_records: Answer) {
+        match of_records {
+            Answer::Refused { number: 5, place, operation } => {
+                *self.operations.entry((place, operation)).or_default() += 1;
+            }
+            Answer::Refused { .. } => {}
+            _ => self.reasons[of_records.reason() as usize] += 1,
         }
     }
 
@@ -124,18 +165,41 @@ pub fn compare(case: &Case, tally: &mut Tally) -> Result<Answer, String> {
     if answer != Answer::Overlap && expected != After::nothing(case, expected.answer) {
         return Err("the model wrote although the answer isn't 1".into());
     }
-    let got = call(case, turn)?;
+    let (got, reason) = call(case, turn)?;
     if got != expected {
         return Err(format!("the call and the model differ in: {}", got.differs(&expected)));
     }
+    compare_reason(case, answer, reason, tally)?;
     if turn % 16 == 0 && wrapped(case).is_some_and(|through| through != expected) {
         return Err("the safe wrapper and the call differ".into());
     }
+    if turn % 16 == 0 && wrapped_reason(case) != reason {
+        return Err("the safe wrapper and the call differ in the reason".into());
+    }
     match answer {
         Answer::Refused { number, .. } => look_at_refused(case, number, tally),
-        _ => rust_judges(case, &expected, tally)?,
+        _ => rust_judges(case, &expected, reason, tally)?,
     }
     Ok(answer)
+}
+
+/// The reason that was given, beside the model's and beside the call's answer, which the model gave too.
+fn compare_reason(case: &Case, answer: Answer, reason: u32, tally: &mut Tally) -> Result<(), String> {
+    let by_call = matches!(answer.code(), 1009 | 1010 | 1015); // and not by the records
+    let of_records = if by_call { model::of_records(&case.first, &case.second) } else { answer };
+    tally.count_reason(of_records);
+    if reason != of_records.reason() {
+        return Err(format!("the reason is {reason}, and the model's is {}", of_records.reason()));
+    }
+    let beside = match reason {
+        0 => 1,
+        1..=5 => 0,
+        refused => refused % 10_000,
+    };
+    if !by_call && answer.code() != beside {
+        return Err(format!("the reason {reason} doesn't go with the answer {}", answer.code()));
+    }
+    Ok(())
 }
 
 /// What the paper asks for.
@@ -145,11 +209,16 @@ fn modelled(case: &Case) -> (Answer, After) {
     (answer, After { answer: answer.code(), first, second, counts })
 }
 
-/// Accepted input: both builds of the Rust give what was expected, or the case is of a known class.
-fn rust_judges(case: &Case, expected: &After, tally: &mut Tally) -> Result<(), String> {
+/// Accepted input: both builds of the Rust give what was expected, and say that the records overlap
+/// exactly where there is no reason why they don't; or the case is of a known class.
+fn rust_judges(case: &Case, expected: &After, reason: u32, tally: &mut Tally) -> Result<(), String> {
     let (checked, plain) = (ran(case, published::checked::pair), ran(case, published::plain::pair));
     let words = (word(&checked, expected), word(&plain, expected));
     if words == ("equal", "equal") {
+        let overlap = |ended: &Ended<After>| matches!(ended, Ended::Done(after) if after.answer == 1);
+        if overlap(&checked) != (reason == 0) || overlap(&plain) != (reason == 0) {
+            return Err(format!("the reason is {reason}, and the published Rust says overlap: {}", overlap(&plain)));
+        }
         tally.equal += 1;
         return Ok(());
     }

@@ -1,5 +1,5 @@
-//! Every limit of the table of refusals, at it and one off, in the first and in the second record;
-//! and every two of these at once, which shows the order of judgement.
+//! Every limit of the table of refusals and of the reasons, at it and one off, in the first and in the
+//! second record; and every two of these at once, which shows the order of judgement.
 use crate::compare::{Tally, check};
 use crate::record::*;
 
@@ -123,6 +123,85 @@ fn reads() -> Vec<fn(&mut Read)> {
     ]
 }
 
+/// Changes to one record's parts of which the stored list has none.
+fn reasons() -> Vec<fn(&mut Read)> {
+    lengths().into_iter().chain(beside_no_length()).chain(codes()).collect()
+}
+
+/// Other operations, on the bases that there are: all of these are clipped first.
+fn clipped(x: &mut Read, behind: &[(u32, u32)]) {
+    x.ops = [&[(S, x.codes.len() as u32)], behind].concat();
+}
+
+/// Other operations, and no bases.
+fn baseless(x: &mut Read, ops: &[(u32, u32)]) {
+    (x.codes, x.quals) = (vec![], vec![]);
+    x.ops = ops.to_vec();
+}
+
+/// No reference length; and a length of 1, with a base there and without.
+fn lengths() -> Vec<fn(&mut Read)> {
+    vec![
+        |x| clipped(x, &[]),
+        |x| clipped(x, &[(M, 0), (H, 1), (P, 1)]),
+        |x| x.ops = vec![(I, x.codes.len() as u32)],
+        |x| baseless(x, &[(D, 0)]),
+        |x| baseless(x, &[(P, 3)]),
+        |x| baseless(x, &[(S, 4)]),
+        |x| clipped(x, &[(D, 1)]),
+        |x| clipped(x, &[(N, 1)]),
+        |x| x.ops = vec![(S, x.codes.len() as u32 - 1), (M, 1)],
+        |x| baseless(x, &[(M, 1)]),
+        |x| baseless(x, &[(D, 1)]),
+    ]
+}
+
+/// No reference length beside another fault of the same record.
+fn beside_no_length() -> Vec<fn(&mut Read)> {
+    vec![
+        |x| {
+            clipped(x, &[]);
+            x.flags |= 4;
+        },
+        |x| {
+            clipped(x, &[]);
+            x.ref_id = 7;
+        },
+        |x| {
+            clipped(x, &[]);
+            x.pos = -1;
+        },
+        |x| {
+            clipped(x, &[]);
+            x.pos = LAST as i32;
+        },
+        |x| {
+            clipped(x, &[]);
+            x.pos = i32::MAX;
+        },
+        |x| clipped(x, &[(9, 0)]),
+        |x| clipped(x, &[(S, 1)]),
+    ]
+}
+
+/// 5 at the second index, twice, behind lengths of 0, beside a read total one off, and at the last index that a
+/// record has room for.
+fn codes() -> Vec<fn(&mut Read)> {
+    fn full(x: &mut Read, at: usize) {
+        x.name.clear();
+        baseless(x, &vec![(M, 0); 16_376]);
+        x.ops[at].0 = 9;
+    }
+    vec![
+        |x| x.ops[1].0 = 9,
+        |x| (x.ops[1].0, x.ops[2].0) = (15, 9),
+        |x| x.ops = [&[(M, 0), (S, 0), (D, 0), (9, 0)], &x.ops[..]].concat(),
+        |x| (x.ops[0].1, x.ops[2].0) = (3, 9),
+        |x| full(x, 9),
+        |x| full(x, 16_375),
+    ]
+}
+
 /// Changes to one record's bytes.
 fn bytes() -> Vec<fn(&mut Vec<u8>)> {
     fn set_l_seq(x: &mut [u8], to: fn(u32) -> u32) {
@@ -202,29 +281,36 @@ pub struct Changed {
     pub case: Case,
 }
 
+/// The record with each of these changes to its parts.
+fn changed(x: &Read, changes: Vec<fn(&mut Read)>) -> Vec<Vec<u8>> {
+    let parts = changes.into_iter().map(|change| {
+        let mut y = x.clone();
+        change(&mut y);
+        y.encode()
+    });
+    parts.collect()
+}
+
+/// The record as it is and with each change of which the stored list has cases.
+fn variants(x: &Read) -> Vec<Vec<u8>> {
+    // each operation with the length 0, in front, behind the second operation and at the end
+    let zeros = (0..9).flat_map(|code| {
+        [0, 2, x.ops.len()].map(|at| {
+            let mut y = x.clone();
+            y.ops.insert(at, (code, 0));
+            y.encode()
+        })
+    });
+    let raw = bytes().into_iter().map(|change| {
+        let mut y = x.encode();
+        change(&mut y);
+        y
+    });
+    [x.encode()].into_iter().chain(changed(x, reads())).chain(zeros).chain(raw).collect()
+}
+
 /// One case for each change, and one for each two.
 pub fn cases() -> Vec<Changed> {
-    let variants = |x: &Read| -> Vec<Vec<u8>> {
-        let parts = reads().into_iter().map(|change| {
-            let mut y = x.clone();
-            change(&mut y);
-            y.encode()
-        });
-        // each operation with the length 0, in front, behind the second operation and at the end
-        let zeros = (0..9).flat_map(|code| {
-            [0, 2, x.ops.len()].map(|at| {
-                let mut y = x.clone();
-                y.ops.insert(at, (code, 0));
-                y.encode()
-            })
-        });
-        let raw = bytes().into_iter().map(|change| {
-            let mut y = x.encode();
-            change(&mut y);
-            y
-        });
-        [x.encode()].into_iter().chain(parts).chain(zeros).chain(raw).collect()
-    };
     let (a, b) = plain();
     let (firsts, seconds, others) = (variants(&a), variants(&b), others());
     let changed = |by: [usize; 4]| {
@@ -245,10 +331,34 @@ pub fn cases() -> Vec<Changed> {
     all
 }
 
+/// One case for each change in `reasons`, and one for it with each other change.
+fn cases_of_reasons() -> Vec<Case> {
+    let (a, b) = plain();
+    let (firsts, seconds) = (changed(&a, reasons()), changed(&b, reasons()));
+    let mut all = Vec::new();
+    for first in &firsts {
+        let mates = variants(&b).into_iter().chain(seconds.clone());
+        all.extend(mates.map(|second| Case::new(first.clone(), second, 0, 0)));
+    }
+    for second in &seconds {
+        all.extend(variants(&a).into_iter().map(|first| Case::new(first, second.clone(), 0, 0)));
+    }
+    for change in others() {
+        let alone = firsts.iter().map(|first| (first.clone(), b.encode()));
+        for (first, second) in alone.chain(seconds.iter().map(|second| (a.encode(), second.clone()))) {
+            let mut case = Case::new(first, second, 0, 0);
+            change(&mut case);
+            all.push(case);
+        }
+    }
+    all
+}
+
 pub fn run() {
     let mut tally = Tally::default();
-    for changed in cases() {
-        check(&changed.case, &mut tally);
+    for case in cases().into_iter().map(|changed| changed.case).chain(cases_of_reasons()) {
+        check(&case, &mut tally);
     }
     tally.print("every limit at it and one off, one and two at a time");
+    tally.expect_reasons();
 }

@@ -1,5 +1,5 @@
-//! The judge: runs the exported call, a model of the paper and the published Rust on the same
-//! input and compares every answer, byte and count. oracle/README.md says how to use it.
+//! The judge: runs the exported calls, a model of the paper and the published Rust on the same
+//! input and compares every answer, reason, byte and count. oracle/README.md says how to use it.
 mod call;
 mod classes;
 mod compare;
@@ -24,7 +24,8 @@ const USAGE: &str = "\
 judge random SEED COUNT                 well-formed pairs
 judge damaged SEED COUNT                the same with damage
 judge extremes SEED COUNT               positions, lengths and totals at the ends of their ranges
-judge limits                            each limit of the table of refusals, at it and one off
+judge codes SEED COUNT                  operations of codes above 8, at any index
+judge limits                            each limit of the table of refusals and of the reasons, at it and one off
 judge short FIRST SECOND LONGEST SEED   all operation lists of up to so many operations
 judge zeros FIRST SECOND SEED           all lists of M, I and D of up to so many, of lengths 0 to 2
                                         with `smallest` behind these, except short: the smallest input of each class
@@ -45,9 +46,10 @@ fn main() {
         }
     };
     match word(0) {
-        "random" => show(seeded("random pairs", random::good, number(1), number(2))),
-        "damaged" => show(seeded("damaged pairs", random::damaged, number(1), number(2))),
+        "random" => show(with_reasons(seeded("random pairs", random::good, number(1), number(2)))),
+        "damaged" => show(with_reasons(seeded("damaged pairs", random::damaged, number(1), number(2)))),
         "extremes" => show(seeded("extreme pairs", random::extreme, number(1), number(2))),
+        "codes" => show(with_operations(seeded("pairs with codes above 8", random::miscoded, number(1), number(2)))),
         "limits" => limits::run(),
         "short" => short::run(number(1) as u32, number(2) as u32, number(3) as u32, number(4)),
         "zeros" => show(short::zeros(number(1) as u32, number(2) as u32, number(3))),
@@ -81,6 +83,22 @@ fn seeded(what: &str, make: fn(&mut Rng) -> Case, seed: u64, count: u64) -> Tall
     tally
 }
 
+/// Ten thousand pairs and more have to have had every reason.
+fn with_reasons(tally: Tally) -> Tally {
+    if tally.cases >= 10_000 {
+        tally.expect_reasons();
+    }
+    tally
+}
+
+/// And refusal 5 for fifty operations of each record.
+fn with_operations(tally: Tally) -> Tally {
+    if tally.cases >= 10_000 {
+        tally.expect_operations(50);
+    }
+    tally
+}
+
 /// Shows what every side does with one pair.
 fn one(case: &Case) {
     let show = |side: &str, answer: String, first: &[u8], second: &[u8]| {
@@ -88,10 +106,12 @@ fn one(case: &Case) {
     };
     let (mut a, mut b, mut c) = (case.first.clone(), case.second.clone(), case.counts.clone());
     let answer = model::pair(&mut a, &mut b, case.agreement, case.disagreement, &mut c).code();
-    show("the paper", format!("{answer} counts {}", hex(&c)), &a, &b);
+    let reason = model::of_records(&case.first, &case.second).reason();
+    let said = |answer, reason, counts| format!("{answer} reason {reason} counts {}", hex(counts));
+    show("the paper", said(answer, reason, &c), &a, &b);
     match call::call(case, 0) {
-        Ok(got) => show("the call", format!("{} counts {}", got.answer, hex(&got.counts)), &got.first, &got.second),
-        Err(finding) => println!("the call             {finding}"),
+        Ok((got, reason)) => show("the calls", said(got.answer, reason, &got.counts), &got.first, &got.second),
+        Err(finding) => println!("the calls            {finding}"),
     }
     let builds =
         [("Rust with checks", published::checked::pair as PairRun), ("Rust without checks", published::plain::pair)];

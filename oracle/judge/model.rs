@@ -1,29 +1,49 @@
-//! Document 01 read literally, the one text of it in Rust: which answer an input gets, with which
-//! number and place, and what a shared position becomes. Written from the document alone, plainly
-//! and slowly. It is the judge of refusals, and of the few inputs on which the published Rust wraps
-//! or panics.
+//! Document 01 read literally, with the reasons of Wish 2, the one text of it in Rust: which answer an
+//! input gets, with which number and place, why two records don't overlap, and what a shared position
+//! becomes. Written from the documents alone, plainly and slowly. It is the judge of refusals and of
+//! reasons, and of the few inputs on which the published Rust wraps or panics.
 use crate::record::{LAST, MOST, pack, unpack, uses};
 
+/// Why two records don't overlap.
+#[derive(Clone, Copy, Debug, PartialEq, Eq)]
+pub enum Reason {
+    Unmapped = 1,
+    ReferencesDiffer,
+    NegativePosition,
+    NoReferenceLength,
+    NoSharedPosition,
+}
+
+/// Of the refusals 5 alone has an operation at fault; that of all others is 0.
 #[derive(Clone, Copy, Debug, PartialEq, Eq)]
 pub enum Answer {
-    NoOverlap,
+    NoOverlap(Reason),
     Overlap,
-    Refused { number: u32, place: u32 },
+    Refused { number: u32, place: u32, operation: u32 },
 }
 
 impl Answer {
-    /// As the exported call gives it.
+    /// As `overlap_call` gives it.
     pub fn code(self) -> u32 {
         match self {
-            Answer::NoOverlap => 0,
+            Answer::NoOverlap(_) => 0,
             Answer::Overlap => 1,
-            Answer::Refused { number, place } => 1000 + 100 * place + number,
+            Answer::Refused { number, place, .. } => 1000 + 100 * place + number,
+        }
+    }
+
+    /// As `overlap_reason_call` gives it.
+    pub fn reason(self) -> u32 {
+        match self {
+            Answer::NoOverlap(reason) => reason as u32,
+            Answer::Overlap => 0,
+            Answer::Refused { operation, .. } => 10_000 * operation + self.code(),
         }
     }
 }
 
 fn refused(number: u32, place: u32) -> Answer {
-    Answer::Refused { number, place }
+    Answer::Refused { number, place, operation: 0 }
 }
 
 // ---- The record ----
@@ -104,17 +124,20 @@ pub fn reference_total(r: &[u8]) -> u64 {
     total(&operations(r), uses_reference)
 }
 
-/// 5, 7 and 8 of the table, in the order of step 7. A length of 0 is no fault.
-fn operations_fault(r: &[u8]) -> Option<u32> {
+/// 5, 7 and 8 of the table, in the order of step 7, for the record at this place. A length of 0 is no
+/// fault.
+fn operations_fault(r: &[u8], place: u32) -> Option<Answer> {
     let ops = operations(r);
-    if ops.iter().any(|o| o.0 > 8) {
-        return Some(5);
+    for (k, op) in ops.iter().enumerate() {
+        if op.0 > 8 {
+            return Some(Answer::Refused { number: 5, place, operation: k as u32 });
+        }
     }
     if l_seq(r) > 0 && !ops.is_empty() && read_total(r) != l_seq(r) {
-        return Some(7);
+        return Some(refused(7, place));
     }
     if pos(r) + reference_total(r) as i64 > LAST {
-        return Some(8);
+        return Some(refused(8, place));
     }
     None
 }
@@ -190,7 +213,8 @@ fn put(r: &mut [u8], i: usize, (code, quality): Called) {
 
 // ---- Order of judgement for a pair ----
 
-/// Steps 3 to 7 and 9: the shared positions, or the answer that ends the matter.
+/// Steps 3 to 9: the shared positions, or the answer that ends the matter. A missing reference length is
+/// looked for between steps 7 and 8.
 fn judged(first: &[u8], second: &[u8], places: (u32, u32)) -> Result<Vec<(usize, usize)>, Answer> {
     let pair = [(first, places.0), (second, places.1)];
     for (r, place) in pair {
@@ -199,16 +223,33 @@ fn judged(first: &[u8], second: &[u8], places: (u32, u32)) -> Result<Vec<(usize,
         }
     }
     let unmapped = |r| flags(r) & 4 != 0;
-    if unmapped(first) || unmapped(second) || ref_id(first) != ref_id(second) || pos(first) < 0 || pos(second) < 0 {
-        return Err(Answer::NoOverlap);
+    if unmapped(first) || unmapped(second) {
+        return Err(Answer::NoOverlap(Reason::Unmapped));
+    }
+    if ref_id(first) != ref_id(second) {
+        return Err(Answer::NoOverlap(Reason::ReferencesDiffer));
+    }
+    if pos(first) < 0 || pos(second) < 0 {
+        return Err(Answer::NoOverlap(Reason::NegativePosition));
     }
     for (r, place) in pair {
-        if let Some(n) = operations_fault(r) {
-            return Err(refused(n, place));
+        if let Some(refusal) = operations_fault(r, place) {
+            return Err(refusal);
         }
     }
+    if reference_total(first) == 0 || reference_total(second) == 0 {
+        return Err(Answer::NoOverlap(Reason::NoReferenceLength));
+    }
     let positions = shared(first, second);
-    if positions.is_empty() { Err(Answer::NoOverlap) } else { Ok(positions) }
+    if positions.is_empty() { Err(Answer::NoOverlap(Reason::NoSharedPosition)) } else { Ok(positions) }
+}
+
+/// What the records alone give, without strategies and counts.
+pub fn of_records(first: &[u8], second: &[u8]) -> Answer {
+    match judged(first, second, (1, 2)) {
+        Ok(_) => Answer::Overlap,
+        Err(answer) => answer,
+    }
 }
 
 /// Treats each shared position; answers the growth of the four counts.
@@ -300,7 +341,7 @@ pub fn pairs(records: &[Vec<u8>]) -> Vec<(usize, usize)> {
 pub fn program(input: &[u8]) -> Vec<u8> {
     match group_answer(input) {
         Ok(out) => out,
-        Err(Answer::Refused { number, place }) => format!("no {number} {place}\n").into_bytes(),
+        Err(Answer::Refused { number, place, .. }) => format!("no {number} {place}\n").into_bytes(),
         Err(_) => unreachable!("a group is refused or it is not"),
     }
 }
@@ -318,7 +359,7 @@ fn group_answer(input: &[u8]) -> Result<Vec<u8>, Answer> {
     for &(i, j) in &found {
         match judged(&all[i], &all[j], (i as u32, j as u32)) {
             Ok(positions) => work.push((i, j, positions)),
-            Err(Answer::NoOverlap) => {}
+            Err(Answer::NoOverlap(_)) => {}
             Err(refusal) => return Err(refusal),
         }
     }

@@ -168,6 +168,40 @@ pub fn damage(r: &mut Rng, record: &mut Vec<u8>) {
     }
 }
 
+/// A well-formed pair in which one to three operations got codes above 8. Half of the reads have more
+/// operations than they need, so that the first at fault can have any index.
+pub fn miscoded(r: &mut Rng) -> Case {
+    let (mut a, mut b) = reads(r);
+    for read in [&mut a, &mut b] {
+        if r.one_in(2) {
+            lengthen(r, read);
+        }
+    }
+    for _ in 0..r.range(1, 3) {
+        let read = if r.one_in(2) { &mut a } else { &mut b };
+        if !read.ops.is_empty() {
+            let at = r.below(read.ops.len() as u64) as usize;
+            read.ops[at].0 = r.range(9, 15) as u32;
+        }
+    }
+    Case::new(a.encode(), b.encode(), r.below(3) as u32, r.below(3) as u32)
+}
+
+/// Puts operations that place and count nothing somewhere into a read: tens, at times hundreds, and now and
+/// then as many as the record can hold.
+fn lengthen(r: &mut Rng, read: &mut Read) {
+    let room = (65_536 - read.encode().len().min(65_536)) as u64 / 4;
+    let more = match r.below(400) {
+        0 => room,
+        1..=20 => r.below(1000),
+        _ => r.below(60),
+    };
+    let idle = (0..more.min(room)).map(|_| if r.one_in(2) { (r.below(9) as u32, 0) } else { (r.pick(&[H, P]), 1) });
+    let idle: Vec<_> = idle.collect();
+    let at = r.below(read.ops.len() as u64 + 1) as usize;
+    read.ops.splice(at..at, idle);
+}
+
 /// Positions, lengths and totals at the ends of their ranges.
 pub fn extreme(r: &mut Rng) -> Case {
     let (mut a, mut b) = (extreme_read(r), extreme_read(r));

@@ -15,7 +15,7 @@ pub fn pair(case: &Case, answer: Answer) -> Vec<String> {
         all.extend(zeros(r).into_iter().map(|zero| format!("{} with {zero} in the {which}", answer.code())));
     }
     match answer {
-        Answer::NoOverlap => all.extend(apart(&case.first, &case.second)),
+        Answer::NoOverlap(_) => all.extend(apart(&case.first, &case.second)),
         Answer::Overlap => {
             let both = model::shared(&case.first, &case.second);
             all.push(format!("ways {} {}, {} positions", case.agreement, case.disagreement, both.len().min(6)));

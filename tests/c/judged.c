@@ -1,7 +1,7 @@
 /*
- * The exported call, run on the paper's whole case, on the examples of examples.h, and on each refusal at its limit and
- * one off, and every two faults at once. It prints a line for each check that fails, and at the end how many passed and
- * failed.
+ * The exported calls on a pair, run on the paper's whole case, on the examples of examples.h, on each refusal and each
+ * reason at its limit and one off, and on every two faults at once. It prints a line for each check that fails, and at the
+ * end how many passed and failed.
  */
 #include "judged.h"
 #include "examples.h"
@@ -99,5 +99,6 @@ int main(void)
     longest_reads();
     limits();
     order_of_judgement();
+    reasons();
     return tell_checks();
 }

@@ -1,6 +1,7 @@
 /*
  * What the files of the program judged share: records built from texts, and calls on a pair of them with watched bytes
- * behind. judged_limits.c, judged_zeros.c and judged_order.c are a topic each, with a function for main at its end.
+ * behind. judged_limits.c, judged_zeros.c, judged_order.c and judged_reasons.c are a topic each, with a function for main
+ * at its end.
  */
 #ifndef JUDGED_H
 #define JUDGED_H
@@ -13,6 +14,7 @@
 #include <string.h>
 
 #include "checks.h"
+#include "model.h"
 #include "records.h"
 
 /* ---- Records: judged_calls.c ---- */
@@ -67,22 +69,33 @@ void start_call(void);
 /* The same, with two records that share four positions, and agree at each. */
 void good_pair(void);
 
-/* Makes the call, and expects its answer. But for answer 1, every byte has to be as it was. */
+/* Makes the call, and expects its answer. But for answer 1, every byte has to be as it was. Before the call and after it
+   the reason is asked for, which writes nothing: it has to be the model's both times, and to go with the answer. */
 void expect_answer(const char *what, uint32_t answer);
+
+/* The same, with the reason known without the model; the answer is the one that goes with it. */
+void expect_reason(const char *what, uint32_t reason);
+
+/* The same, where the answer goes by something else than the records. */
+void expect_answer_and_reason(const char *what, uint32_t answer, uint32_t reason);
 
 /* Expects both records as they are given here after the call, and the counts grown by so much. */
 void expect_after(const char *what, const struct record *first, const struct record *second, const uint64_t *growth);
 
-/* What a record is expected to give beside a good one: 0, 1, or a refusal at its place. */
-#define REFUSED(number) (1000u + (number))
+/* What a record is expected to give beside a good one: 0, 1, or a refusal at its place. As a reason: 0, 1 to 5, or a
+   refusal, which by an operation's code has the operation's index. */
+#define FAULT(number) REFUSED(number, 0)
+#define CODE_FAULT(index) (FAULT(5) + INDEX_STEP * (uint32_t)(index))
 
 /* Tries the record in given.first as the first of a pair and as the second. */
-void at_each_place(const char *what, uint32_t expected);
+void at_each_place(const char *what, uint32_t answer);
+void reason_at_each_place(const char *what, uint32_t reason);
 
 /* ---- Topics ---- */
 
 void limits(void);
 void lengths_of_zero(void);
 void order_of_judgement(void);
+void reasons(void);
 
 #endif

@@ -78,17 +78,62 @@ void good_pair(void)
     build(&given.second, 9, "4M", "ACGT", "20 20 20 20");
 }
 
-void expect_answer(const char *what, uint32_t answer)
+/* What overlap_call answers where this is the reason, and nothing but the records decides. */
+static uint32_t answer_beside(uint32_t reason)
+{
+    if (reason <= OVERLAP_REASON_NO_SHARED_POSITION)
+        return reason == 0;
+    return reason % INDEX_STEP;
+}
+
+/* Asks for the reason of the records in `after`, and expects it. */
+static uint32_t ask_reason(const char *what, const char *when, uint32_t expected)
+{
+    static struct call before;
+    memcpy(&before, &after, sizeof after);
+    uint32_t got = overlap_reason_call(after.first.bytes, after.first.len, after.second.bytes, after.second.len);
+    check(got == expected, "%s: %s the call, expected the reason %" PRIu32 ", got %" PRIu32, what, when, expected, got);
+    check(memcmp(&before, &after, sizeof after) == 0, "%s: %s the call, asking for the reason wrote a byte", what, when);
+    return got;
+}
+
+/* Makes both calls, and expects what they answer. */
+static void expect_both(const char *what, uint32_t answer, uint32_t reason)
 {
     memcpy(&after, &given, sizeof given);
+    uint32_t before = ask_reason(what, "before", reason);
     uint32_t got = overlap_call(after.first.bytes, after.first.len, after.second.bytes, after.second.len,
                                 after.agreement, after.disagreement, after.counts, after.counts_len);
     check(got == answer, "%s: expected the answer %" PRIu32 ", got %" PRIu32, what, answer, got);
-    if (answer == 1)
-        return;
-    check_bytes(what, "first record", given.first.bytes, after.first.bytes, sizeof given.first.bytes);
-    check_bytes(what, "second record", given.second.bytes, after.second.bytes, sizeof given.second.bytes);
-    check_bytes(what, "counts", given.counts, after.counts, sizeof given.counts);
+    if (answer != 1) {
+        check_bytes(what, "first record", given.first.bytes, after.first.bytes, sizeof given.first.bytes);
+        check_bytes(what, "second record", given.second.bytes, after.second.bytes, sizeof given.second.bytes);
+        check_bytes(what, "counts", given.counts, after.counts, sizeof given.counts);
+    }
+    check(ask_reason(what, "after", reason) == before, "%s: the reason is another after the call", what);
+    if (got != 1009 && got != 1010 && got != 1015)
+        check(got == answer_beside(before), "%s: the answer %" PRIu32 " doesn't go with the reason %" PRIu32, what, got, before);
+}
+
+static uint32_t modelled_reason(void)
+{
+    return reason_model(given.first.bytes, given.first.len, given.second.bytes, given.second.len);
+}
+
+void expect_answer(const char *what, uint32_t answer)
+{
+    expect_both(what, answer, modelled_reason());
+}
+
+void expect_answer_and_reason(const char *what, uint32_t answer, uint32_t reason)
+{
+    check(modelled_reason() == reason, "%s: expected the reason %" PRIu32 ", the model has %" PRIu32, what, reason, modelled_reason());
+    expect_both(what, answer, reason);
+}
+
+void expect_reason(const char *what, uint32_t reason)
+{
+    expect_answer_and_reason(what, answer_beside(reason), reason);
 }
 
 void expect_after(const char *what, const struct record *first, const struct record *second, const uint64_t *growth)
@@ -102,7 +147,7 @@ void expect_after(const char *what, const struct record *first, const struct rec
     check_bytes(what, "counts", expected, after.counts, sizeof expected);
 }
 
-void at_each_place(const char *what, uint32_t expected)
+static void expect_at_each_place(const char *what, uint32_t expected, void expect(const char *, uint32_t))
 {
     static struct record r;
     char placed[200];
@@ -111,6 +156,16 @@ void at_each_place(const char *what, uint32_t expected)
         good_pair();
         memcpy(place == 1 ? &given.first : &given.second, &r, sizeof r);
         snprintf(placed, sizeof placed, "%s, at place %d", what, place);
-        expect_answer(placed, expected < 1000 ? expected : expected + 100 * (uint32_t)place);
+        expect(placed, expected < 1000 ? expected : expected + 100 * (uint32_t)place);
     }
+}
+
+void at_each_place(const char *what, uint32_t answer)
+{
+    expect_at_each_place(what, answer, expect_answer);
+}
+
+void reason_at_each_place(const char *what, uint32_t reason)
+{
+    expect_at_each_place(what, reason, expect_reason);
 }

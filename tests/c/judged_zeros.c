@@ -81,19 +81,19 @@ static void beside_refusals(void)
                 const char *spelled = with(a, place, 1, length, *code);
                 for (uint32_t count = 3; count <= 6; count++) {
                     build_plain(r, 9, spelled, count, 1, 30);
-                    at_each_place(text("%s on %u bases", spelled, count), count == 4 + read ? 1 : REFUSED(7));
+                    at_each_place(text("%s on %u bases", spelled, count), count == 4 + read ? 1 : FAULT(7));
                 }
                 build_plain(r, end, spelled, 4 + read, 1, 30); at_each_place(text("%s, an end at the limit", spelled), 0);
-                build_plain(r, end + 1, spelled, 4 + read, 1, 30); at_each_place(text("%s, an end one past the limit", spelled), REFUSED(8));
+                build_plain(r, end + 1, spelled, 4 + read, 1, 30); at_each_place(text("%s, an end one past the limit", spelled), FAULT(8));
             }
             for (uint32_t unknown = 9; unknown <= 15; unknown += 6) {
                 const char *spelled = with(a, place, 2, 0, *code);
                 build_plain(r, 9, spelled, 4, 1, 30); set_operation(r, place, 0, unknown);
-                at_each_place(text("%s, the first of the two of code %u", spelled, unknown), REFUSED(5));
+                at_each_place(text("%s, the first of the two of code %u", spelled, unknown), FAULT(5));
                 build_plain(r, 9, spelled, 4, 1, 30); set_operation(r, place + 1, 0, unknown);
-                at_each_place(text("%s, the second of the two of code %u", spelled, unknown), REFUSED(5));
+                at_each_place(text("%s, the second of the two of code %u", spelled, unknown), FAULT(5));
                 build_plain(r, 9, spelled, 5, 1, 30); set_operation(r, place + 1, 1, unknown);
-                at_each_place(text("%s, code %u before a total one off", spelled, unknown), REFUSED(5));
+                at_each_place(text("%s, code %u before a total one off", spelled, unknown), FAULT(5));
             }
         }
     }
@@ -106,10 +106,10 @@ static void alone(void)
     for (const char *code = CODES; *code != '\0'; code++) {
         snprintf(operations, sizeof operations, "0%c", *code);
         build_plain(r, 9, operations, 0, 1, 30); at_each_place(text("%s alone, no bases", operations), 0);
-        build_plain(r, 9, operations, 1, 1, 30); at_each_place(text("%s alone, a base", operations), REFUSED(7));
-        build_plain(r, 9, operations, 4, 1, 30); at_each_place(text("%s alone, four bases", operations), REFUSED(7));
+        build_plain(r, 9, operations, 1, 1, 30); at_each_place(text("%s alone, a base", operations), FAULT(7));
+        build_plain(r, 9, operations, 4, 1, 30); at_each_place(text("%s alone, four bases", operations), FAULT(7));
         build_plain(r, 2147483646, operations, 0, 1, 30); at_each_place(text("%s alone at pos 2147483646", operations), 0);
-        build_plain(r, 2147483647, operations, 0, 1, 30); at_each_place(text("%s alone at pos 2147483647", operations), REFUSED(8));
+        build_plain(r, 2147483647, operations, 0, 1, 30); at_each_place(text("%s alone at pos 2147483647", operations), FAULT(8));
     }
 }
 
@@ -120,8 +120,8 @@ static void in_a_row(void)
     for (uint32_t code = 0; code <= 8; code++) {
         build_many(r, 16376, 0, code, 0); check(r->len == LONGEST, "16376 operations: expected a record of 65536 bytes");
         at_each_place(text("16376 times code %u of length 0", code), 0);
-        build_many(r, 16377, 0, code, 0); at_each_place(text("16377 times code %u of length 0", code), REFUSED(2));
-        build_many(r, 16375, 0, code, 1); at_each_place(text("16375 times code %u of length 0, a base", code), REFUSED(7));
+        build_many(r, 16377, 0, code, 0); at_each_place(text("16377 times code %u of length 0", code), FAULT(2));
+        build_many(r, 16375, 0, code, 1); at_each_place(text("16375 times code %u of length 0, a base", code), FAULT(7));
         for (int at = 0; at < 16375; at += 8187) {
             build_many(r, 16375, 0, code, 1); set(r, POS, 4, 9); set(r, NAME + 4 * at, 4, 1 * 16);
             at_each_place(text("1M behind %d and before others of length 0", at), 1);

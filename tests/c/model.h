@@ -1,8 +1,8 @@
 /*
  * The paper in plain C, the only text of it here: what a shared position becomes (oracle/htslib.c holds it against what
- * htslib reads), frames, mates, and the filed call and the trailer call as include/overlap.h tells them. What a pair
- * becomes, what it answers and what it adds is asked of overlap_call; judged.c has the pair's answers as examples, and
- * rows.c holds the pairs that share one row of positions against what each position becomes.
+ * htslib reads), why two records do not overlap, frames, mates, and the filed call and the trailer call as
+ * include/overlap.h tells them. What a pair becomes and what it adds is asked of overlap_call; judged.c has the pair's
+ * answers as examples, and rows.c holds the pairs that share one row of positions against what each position becomes.
  * bench/limit.c and bench/program.c tell the same again for speed.
  */
 #ifndef MODEL_H
@@ -56,7 +56,7 @@ static inline unsigned treat(struct called *x, struct called *y, uint32_t agreem
     return disagreement == 2 && by > 0 ? 1 : 2;
 }
 
-/* ---- Frames ---- */
+/* ---- A record ---- */
 
 /* The number that refuses a record of so many bytes, or 0. */
 static inline uint32_t fault_of(const uint8_t *r, uint64_t size)
@@ -71,6 +71,105 @@ static inline uint32_t fault_of(const uint8_t *r, uint64_t size)
         return 3;
     return bases + (count + 1) / 2 + count > size ? 4 : 0;
 }
+
+/* ---- Why a pair does not overlap ---- */
+
+/* The largest end of a read on its reference, and what an operation's index adds to refusal 5. */
+enum { LAST_END = 2147483646, INDEX_STEP = 10000 };
+
+/* An operation by its index: length * 16 + code. */
+static inline uint64_t operation_at(const uint8_t *r, uint64_t k)
+{
+    return number_at(r + NAME + r[NAME_LENGTH] + 4 * k, 4);
+}
+
+static inline int uses_read(uint64_t code)        /* M I S = X */
+{
+    return code == 0 || code == 1 || code == 4 || code == 7 || code == 8;
+}
+
+static inline int uses_reference(uint64_t code)   /* M D N = X */
+{
+    return code == 0 || code == 2 || code == 3 || code == 7 || code == 8;
+}
+
+/* The lengths of the first n operations that use it, added up. */
+static inline uint64_t used(const uint8_t *r, uint64_t n, int uses(uint64_t code))
+{
+    uint64_t sum = 0;
+    for (uint64_t k = 0; k < n; k++)
+        if (uses(operation_at(r, k) % 16))
+            sum += operation_at(r, k) / 16;
+    return sum;
+}
+
+static inline uint64_t operation_count(const uint8_t *r)
+{
+    return number_at(r + OPERATION_COUNT, 2);
+}
+
+/* 5, 7 or 8 of a record that has its parts, 5 with the operation's index; or 0. */
+static inline uint32_t fault_of_operations(const uint8_t *r)
+{
+    uint64_t n = operation_count(r), count = number_at(r + L_SEQ, 4);
+    for (uint64_t k = 0; k < n; k++)
+        if (operation_at(r, k) % 16 > 8)
+            return 5 + INDEX_STEP * (uint32_t)k;
+    if (n > 0 && count > 0 && used(r, n, uses_read) != count)
+        return 7;
+    return number_at(r + POS, 4) + used(r, n, uses_reference) > LAST_END ? 8 : 0;
+}
+
+/* The reference position, counted from 1, at which base i sits; 0 where it sits nowhere. */
+static inline uint64_t seat_of(const uint8_t *r, uint64_t i)
+{
+    uint64_t read = 0, reference = 0;
+    for (uint64_t k = 0; k < operation_count(r); k++) {
+        uint64_t length = operation_at(r, k) / 16, code = operation_at(r, k) % 16;
+        if (uses_read(code) && uses_reference(code) && i >= read && i < read + length)
+            return number_at(r + POS, 4) + 1 + reference + (i - read);
+        read += uses_read(code) ? length : 0;
+        reference += uses_reference(code) ? length : 0;
+    }
+    return 0;
+}
+
+/* Whether a base of one record and a base of the other sit at the same position: every base with every other. */
+static inline int share_a_position(const uint8_t *r, const uint8_t *s)
+{
+    for (uint64_t i = 0; i < number_at(r + L_SEQ, 4); i++) {
+        uint64_t seat = seat_of(r, i);
+        for (uint64_t j = 0; seat != 0 && j < number_at(s + L_SEQ, 4); j++)
+            if (seat_of(s, j) == seat)
+                return 1;
+    }
+    return 0;
+}
+
+/* What overlap_reason_call answers. */
+static inline uint32_t reason_model(const uint8_t *first, size_t first_len, const uint8_t *second, size_t second_len)
+{
+    uint32_t fault;
+    if ((fault = fault_of(first, first_len)) != 0)
+        return REFUSED(fault, 1);
+    if ((fault = fault_of(second, second_len)) != 0)
+        return REFUSED(fault, 2);
+    if ((number_at(first + FLAGS, 2) & 4) != 0 || (number_at(second + FLAGS, 2) & 4) != 0)
+        return OVERLAP_REASON_UNMAPPED;
+    if (number_at(first + REF_ID, 4) != number_at(second + REF_ID, 4))
+        return OVERLAP_REASON_REFERENCES_DIFFER;
+    if (number_at(first + POS, 4) > INT32_MAX || number_at(second + POS, 4) > INT32_MAX)
+        return OVERLAP_REASON_NEGATIVE_POSITION;
+    if ((fault = fault_of_operations(first)) != 0)
+        return REFUSED(fault, 1);
+    if ((fault = fault_of_operations(second)) != 0)
+        return REFUSED(fault, 2);
+    if (used(first, operation_count(first), uses_reference) == 0 || used(second, operation_count(second), uses_reference) == 0)
+        return OVERLAP_REASON_NO_REFERENCE_LENGTH;
+    return share_a_position(first, second) ? 0 : OVERLAP_REASON_NO_SHARED_POSITION;
+}
+
+/* ---- Frames ---- */
 
 /* A group cut into frames: where each begins, and behind them where the last one ends. */
 struct cut {

@@ -4,7 +4,8 @@
  * difference or an N in the first, in the second or in both; or two faults, 1, 15, 16, 17, 31, 32 and 33 places apart. Each
  * is tried with records that end right behind their last quality, which is the row's, and with bases and up to 40 bytes
  * of tags behind the row. Behind every buffer is a page that can't be touched: a call that goes past an end ends the
- * program, with a line that says at which case. (Where hosts/far makes the calls, its guards find writes alone.)
+ * program, with a line that says at which case. (Where hosts/far makes the calls, its guards find writes alone.) Where
+ * all of a row agrees, the reason is asked for in the same buffers, before the call and after it.
  * It prints the seed, a line for each check that fails, and at the end what was compared.
  *
  *   rows [SEED]
@@ -148,7 +149,7 @@ static void correct(struct pair *p, uint64_t *growth)
 
 /* The case that is tried, for what is printed of it. */
 static struct { uint32_t row, places[2]; int faults[2], count, bare; unsigned parities, strategies; } now;
-static unsigned long calls, bare_calls;
+static unsigned long calls, bare_calls, asked;
 
 static const char *this_case(void)
 {
@@ -203,6 +204,15 @@ static void check_room(const char *where, const uint8_t *expected, const uint8_t
         passed++;
 }
 
+/* Asks for the reason of the records in their buffers: that the row has no positions, if there is one. */
+static void ask_reason(uint32_t row, const size_t *len)
+{
+    uint32_t reason = overlap_reason_call(ends[0] - len[0], len[0], ends[1] - len[1], len[1]);
+    uint32_t expected = row > 0 ? 0 : OVERLAP_REASON_NO_SHARED_POSITION;
+    check(reason == expected, "%s: expected the reason %" PRIu32 ", got %" PRIu32, this_case(), expected, reason);
+    asked++;
+}
+
 /* Makes the call and compares the answer, both records and the counts with what the rules say. */
 static void compare(struct pair *p)
 {
@@ -219,8 +229,12 @@ static void compare(struct pair *p)
         memset(ends[i] - len[i] - MARGIN, MARK, MARGIN);
         memcpy(ends[i] - len[i], given[i], len[i]);
     }
+    if (now.count == 0)
+        ask_reason(p->row, len);
     uint32_t answer = overlap_call(ends[0] - len[0], len[0], ends[1] - len[1], len[1], p->agreement, p->disagreement,
                                    ends[2] - len[2], len[2]);
+    if (now.count == 0)
+        ask_reason(p->row, len);
     if (answer == (p->row > 0))
         passed++;
     else
@@ -301,6 +315,6 @@ int main(int argc, char **argv)
             try_row(is_border(now.row));
     check(calls == 2 * bare_calls && bare_calls > 0, "%lu of %lu calls had nothing behind the row", bare_calls, calls);
     printf("rows of 0 to %d positions: %lu calls compared with the model, answer, both records and counts; in %lu of them nothing"
-           " stands behind the row\n", LONGEST_ROW, calls, bare_calls);
+           " stands behind the row; the reason asked for %lu times\n", LONGEST_ROW, calls, bare_calls, asked);
     return tell_checks();
 }
