@@ -98,7 +98,7 @@ module _ (s : List ℕ) (m : ℕ) (ends : endingOf s ≡ At m) (size : length s 
     -- what the group call gives for the frames, by the strategies w
     given : (w : Strategies) × Accepted w (take p s) zeroed n q o u h
     given =
-        let a = accepted (b / 3) (b % 3) (take p s) zeroed n q o (ap (λ (x : Group.Ended). Group.groupNumbers (x .answer)) group) in
+        let a = accepted (b / 3) (b % 3) 93 (take p s) zeroed n q o (ap (λ (x : Group.Ended). Group.groupNumbers (x .answer)) group) in
         (a .0, subst (λ (x : Group.Ended). Accepted (a .0) (take p s) zeroed n q o (x .bytes) (x .stats)) group (a .3))
 
     abbrev w : Strategies

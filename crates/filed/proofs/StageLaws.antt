@@ -14,7 +14,7 @@ use Rattle.strategy.specs.declared.Strategies.{Strategies}
 use Rattle.strategy.specs.declared.Numbered.{Numbered}
 use Rattle.strategy.specs.declared.Numbered.the-variants as Numbers
 use Rattle.strategy.specs.Number.{numberedOf}
-use Rattle.strategy.proofs.NumberLaws.{refused-is}
+use Rattle.strategy.proofs.NumberLaws.{full-refused}
 use Rattle.group_frames.specs.Frame.{beginOf, framesOf}
 use Rattle.group_frames.specs.declared.Framing.the-variants.{Whole}
 use Rattle.group_mates.specs.Register.{pairsOf}
@@ -102,16 +102,16 @@ module _ (s out : List ℕ) (g : CorrectionStats) (p b : ℕ) where
   group-refused : (r : Refusal) → Group.ended (Groups.Refused r) (take p s) zeroed ≡ groupIn s p b → (o : Filed) → Refuses r g o → ended (o .answer) out (o .stats) ≡ onRaw s out g p b
   group-refused r e o h = refusal out g r o h ∙ by-group (Group.ended (Groups.Refused r) (take p s) zeroed) e
 
-  module _ (a : Numbered) (ea : a ≡ numberedOf (b / 3) (b % 3)) where
+  module _ (a : Numbered) (ea : a ≡ numberedOf (b / 3) (b % 3) 93) where
     pub no-numbers : (r : Refusal) → a ≡ Numbers.Refused r → (o : Filed) → Refuses Strategy g o → ended (o .answer) out (o .stats) ≡ onRaw s out g p b
     no-numbers r e o h =
-        let z : r ≡ Strategy = refused-is (b / 3) (b % 3) r (sym ea ∙ e) in
-        group-refused r (no-strategy (b / 3) (b % 3) (take p s) zeroed a ea r e (grouped (Groups.Refused r) zeroed) (refl, refl)) o (rw z h)
+        let z : r ≡ Strategy = full-refused (b / 3) (b % 3) r (sym ea ∙ e) in
+        group-refused r (no-strategy (b / 3) (b % 3) 93 (take p s) zeroed a ea r e (grouped (Groups.Refused r) zeroed) (refl, refl)) o (rw z h)
 
     module _ (w : Strategies) (e : a ≡ Numbers.Are w) (n : ℕ) (whole : framesOf (take p s) ≡ Whole n)
         (v : Verdict) (ev : v ≡ judgeBy (indexedAt (take p s)) (pairsOf (take p s) n)) where
       goes : (u : List ℕ) (o : Grouped) → Group.ended (o .answer) u (o .stats) ≡ Group.framedOf w (take p s) zeroed → Group.ended (o .answer) u (o .stats) ≡ groupIn s p b
-      goes u o h = goes-on (b / 3) (b % 3) (take p s) zeroed a ea w e refl u o h
+      goes u o h = goes-on (b / 3) (b % 3) 93 (take p s) zeroed a ea w e refl u o h
 
       pub pair-refused : (r : Refusal) → v ≡ Verdicts.Refused r → (o : Filed) → Refuses r g o → ended (o .answer) out (o .stats) ≡ onRaw s out g p b
       pair-refused r d o h =

@@ -39,9 +39,9 @@ onGroup s out g p (Groups.Done n q o) e =
     cond (ltb (length out) (length s)) (ended (Refused OutputShort) out g)
     (ended (Corrected n q o (e .stats)) (correctedWith s p (e .bytes) (e .stats) ++ drop (length s) out) (plus g (e .stats)))
 
--- the group call on the first p bytes, its counts begun at 0; b is 3 times the agreement strategy plus the disagreement one
+-- the group call on the first p bytes, with the cap 93 and its counts begun at 0; b is 3 times the agreement strategy plus the disagreement one
 abbrev pub groupIn : List ℕ → ℕ → ℕ → Group.Ended
-groupIn s p b = Group.groupOf (b / 3) (b % 3) (take p s) zeroed
+groupIn s p b = Group.groupOf (b / 3) (b % 3) 93 (take p s) zeroed
 
 abbrev pub onRaw : List ℕ → List ℕ → CorrectionStats → ℕ → ℕ → Ended
 onRaw s out g p b = onGroup s out g p (groupIn s p b .answer) (groupIn s p b)

@@ -198,7 +198,11 @@ fn correct_raw(
     requires { ⌜ FramesEnd (now filed) (now begins) n × (p ≡ beginOf (now filed) n) × (length (now filed) ≡ p + 50) × (full stats ≡ false) ⌝ }
     ensures { λ r. ⌜ ended (r .answer) (now (out .exit)) (r .stats) ≡ onRaw (now (filed .entry)) (now (out .entry)) stats p strategies ⌝ }
 {
-    let numbered = strategy::by_number((strategies / 3) as u32, (strategies % 3) as u32);
+    let numbered = strategy::by_number(
+        (strategies / 3) as u32,
+        (strategies % 3) as u32,
+        strategy::FULL_CAP as u32,
+    );
     let Numbered::Are(w) = numbered else {
         return refused(Refusal::Strategy, stats);
     };

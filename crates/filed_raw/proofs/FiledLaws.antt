@@ -17,7 +17,7 @@ use Rattle.strategy.specs.declared.Strategies.{Strategies}
 use Rattle.strategy.specs.declared.Numbered.{Numbered}
 use Rattle.strategy.specs.declared.Numbered.the-variants as Numbers
 use Rattle.strategy.specs.Number.{numberedOf}
-use Rattle.strategy.proofs.NumberLaws.{first-none, second-none, refused-is}
+use Rattle.strategy.proofs.NumberLaws.{first-none, second-none, full-refused}
 use Rattle.group_frames.specs.declared.Framing.{Framing}
 use Rattle.group_frames.specs.declared.Framing.the-variants.{Whole, Broken}
 use Rattle.group_frames.specs.Frame.{beginOf, framesOf}
@@ -37,10 +37,10 @@ refused-are : (r : Refusal) (w : Strategies) → Numbers.Refused r ≡ Numbers.A
 refused-are r w e = let z : _≡_ {A = ℕ} 0 1 = cc in omega arith
 
 -- numbers that stand for strategies are at most 2
-pub are-small : (a d : ℕ) (numbered : Numbered) → numbered ≡ numberedOf a d → (w : Strategies) → numbered ≡ Numbers.Are w → (a ≤ 2) × (d ≤ 2)
+pub are-small : (a d : ℕ) (numbered : Numbered) → numbered ≡ numberedOf a d 93 → (w : Strategies) → numbered ≡ Numbers.Are w → (a ≤ 2) × (d ≤ 2)
 are-small a d numbered is w e = (
-  ⊎-elim (λ (l : 2 < a). absurd (refused-are Strategy w (first-none a d l ∙ sym is ∙ e))) (λ (h : a ≤ 2). h) (lt-or-le 2 a),
-  ⊎-elim (λ (l : 2 < d). absurd (refused-are Strategy w (second-none a d l ∙ sym is ∙ e))) (λ (h : d ≤ 2). h) (lt-or-le 2 d),
+  ⊎-elim (λ (l : 2 < a). absurd (refused-are Strategy w (first-none a d 93 l ∙ sym is ∙ e))) (λ (h : a ≤ 2). h) (lt-or-le 2 a),
+  ⊎-elim (λ (l : 2 < d). absurd (refused-are Strategy w (second-none a d 93 l ∙ sym is ∙ e))) (λ (h : d ≤ 2). h) (lt-or-le 2 d),
 )
 
 -- a table that is filled is of at most 256 records
@@ -48,11 +48,11 @@ pub filled-few : (s begins : List ℕ) (f : Framing) (n : ℕ) → Filled s begi
 filled-few s begins f n h e = (rw e at h) .few
 
 -- ---- the filing, by what the code finds
-module _ (a d : ℕ) (s out : List ℕ) (numbered : Numbered) (is : numbered ≡ numberedOf a d) where
+module _ (a d : ℕ) (s out : List ℕ) (numbered : Numbered) (is : numbered ≡ numberedOf a d 93) where
   pub numbers-wrong : (r : Refusal) → numbered ≡ Numbers.Refused r → filing (Refused Strategy) out ≡ fileOf a d s out
   unfolding fileOf
   numbers-wrong r e =
-      ap (λ (x : Refusal). filing (Refused x) out) (sym (refused-is a d r (sym is ∙ e))) ∙ ap (onNumbered (3 * a + d) s out) (sym e ∙ is)
+      ap (λ (x : Refusal). filing (Refused x) out) (sym (full-refused a d r (sym is ∙ e))) ∙ ap (onNumbered (3 * a + d) s out) (sym e ∙ is)
 
   module _ (w : Strategies) (are : numbered ≡ Numbers.Are w) (f : Framing) (cut : f ≡ framesOf s) where
     as-framed : onFrames (3 * a + d) s out f ≡ fileOf a d s out
@@ -82,27 +82,27 @@ pub record MadeOf (a d : ℕ) (s out : List ℕ) (n : ℕ) (t : List ℕ) : Type
 
 pub made-of : (a d : ℕ) (s out : List ℕ) (n : ℕ) (t : List ℕ) → fileOf a d s out ≡ filing (Made n) t → MadeOf a d s out n t
 unfolding fileOf
-made-of a d s out n t e = numbers (numberedOf a d) refl e
+made-of a d s out n t e = numbers (numberedOf a d 93) refl e
   where
     refused : (r : Refusal) → filing (Refused r) out ≡ filing (Made n) t → ⊥
     refused r h =
         let h′ : Refused r ≡ Made n = ap (λ (x : Filed). x .answer) h in
         let z : _≡_ {A = ℕ} 0 1 = cc in omega arith
 
-    room : (w : Strategies) → numberedOf a d ≡ Numbers.Are w → (m : ℕ) → framesOf s ≡ Whole m → (short : Bool)
+    room : (w : Strategies) → numberedOf a d 93 ≡ Numbers.Are w → (m : ℕ) → framesOf s ≡ Whole m → (short : Bool)
         → cond short (filing (Refused OutputShort) out) (filing (Made m) (rawIn out (3 * a + d) m (length s))) ≡ filing (Made n) t → MadeOf a d s out n t
     room w f m g true h = absurd (refused OutputShort h)
     room w f m g false h =
         let h′ : Made m ≡ Made n = ap (λ (x : Filed). x .answer) h in
         let z : m ≡ n = cc in
-        let k = are-small a d (numberedOf a d) refl w f in
+        let k = are-small a d (numberedOf a d 93) refl w f in
         record { agreement = k .0; disagreement = k .1; whole = g ∙ ap Whole z; bytes = sym (ap (λ (x : Filed). x .room) h) ∙ ap (λ (x : ℕ). rawIn out (3 * a + d) x (length s)) z }
 
-    frames : (w : Strategies) → numberedOf a d ≡ Numbers.Are w → (f : Framing) → framesOf s ≡ f → onFrames (3 * a + d) s out f ≡ filing (Made n) t → MadeOf a d s out n t
+    frames : (w : Strategies) → numberedOf a d 93 ≡ Numbers.Are w → (f : Framing) → framesOf s ≡ f → onFrames (3 * a + d) s out f ≡ filing (Made n) t → MadeOf a d s out n t
     frames w f (Broken r) g h = absurd (refused r h)
     frames w f (Whole m) g h = room w f m g (ltb (length out) 50) h
 
-    numbers : (x : Numbered) → numberedOf a d ≡ x → onNumbered (3 * a + d) s out x ≡ filing (Made n) t → MadeOf a d s out n t
+    numbers : (x : Numbered) → numberedOf a d 93 ≡ x → onNumbered (3 * a + d) s out x ≡ filing (Made n) t → MadeOf a d s out n t
     numbers (Numbers.Refused r) f h = absurd (refused r h)
     numbers (Numbers.Are w) f h = frames w f (framesOf s) refl h
 

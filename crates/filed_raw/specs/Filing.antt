@@ -28,10 +28,10 @@ abbrev pub onFrames : ℕ → List ℕ → List ℕ → Framing → Filed
 onFrames w s out (Broken r) = filing (Refused r) out
 onFrames w s out (Whole n) = cond (ltb (length out) 50) (filing (Refused OutputShort) out) (filing (Made n) (rawIn out w n (length s)))
 
--- 10, then the rest
+-- 10, then the rest; a filed group has the cap 93
 abbrev pub onNumbered : ℕ → List ℕ → List ℕ → Numbered → Filed
 onNumbered w s out (Numbers.Refused r) = filing (Refused r) out
 onNumbered w s out (Numbers.Are x) = onFrames w s out (framesOf s)
 
 unfoldable pub fileOf : ℕ → ℕ → List ℕ → List ℕ → Filed
-fileOf agreement disagreement s out = onNumbered (3 * agreement + disagreement) s out (numberedOf agreement disagreement)
+fileOf agreement disagreement s out = onNumbered (3 * agreement + disagreement) s out (numberedOf agreement disagreement 93)

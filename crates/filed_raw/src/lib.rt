@@ -16,7 +16,7 @@ pub enum Filing {
 pub fn file(frames: &[u8], agreement: u32, disagreement: u32, out: &mut [u8]) -> Filing
     ensures { λ r. ⌜ filing r (now (out .exit)) ≡ fileOf agreement disagreement (now (frames .entry)) (now (out .entry)) ⌝ }
 {
-    let numbered = strategy::by_number(agreement, disagreement);
+    let numbered = strategy::by_number(agreement, disagreement, strategy::FULL_CAP as u32);
     let Numbered::Are(_) = numbered else {
         return Filing::Refused(Refusal::Strategy);
     };

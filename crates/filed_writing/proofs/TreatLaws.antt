@@ -1,6 +1,6 @@
 -- A pair that was judged, treated with counts from zero, is what the pair call makes of it with counts from zero.
-use Prim.Native.Nat.{ℕ, zero, suc, _*_}
-use mathlib.Core.Path.{_≡_, refl, sym, _∙_, ap}
+use Prim.Native.Nat.{ℕ, _*_}
+use mathlib.Core.Path.{_≡_, refl, _∙_, ap}
 use mathlib.Core.List.{List}
 use native.Mathlib.Omega.{arith}
 use Rattle.stats.specs.declared.CorrectionStats.{CorrectionStats}
@@ -12,7 +12,7 @@ use Rattle.positions.specs.Step.{state}
 use Rattle.pair_merge.specs.declared.Met.{Met}
 use Rattle.pair_judgement.specs.Where.{whereOf}
 use Rattle.pair_judgement.specs.Ready.{Cleared, TreatedAt}
-use Rattle.pair.specs.Pair.{Outcome, outcome, pairOf}
+use Rattle.pair.specs.Pair.{Outcome, outcome, recordsOf}
 use Rattle.pair.proofs.ClearedLaws.{metAnswer, cleared-called}
 use Rattle.group_applying.specs.Applied.{overlapCount}
 use Rattle.group_applying.specs.Within.{overlapOf}
@@ -26,10 +26,10 @@ zero-room z e = rw e (room-less zeroed 131072 (128 * 131072) (omega arith) (full
 pub treats : (w : Strategies) (a b : List ℕ) → Cleared a b → (z : CorrectionStats) → z ≡ zeroed → (r : Met) (a′ b′ : List ℕ)
     → TreatedAt (whereOf a b) w (state a b z) (state a′ b′ (r .stats)) (r .shared) → (n : ℕ) → n ≡ overlapOf (r .shared) → Treats w a b a′ b′ (applied 1 n (r .stats))
 treats w a b k z ez r a′ b′ q n en =
-    let called = cleared-called w (state a b zeroed) refl k (state a′ b′ (r .stats)) (r .shared) (rw ez at q) in
-    let o : outcome (metAnswer (called .0) (r .shared)) (state a′ b′ (r .stats)) ≡ pairOf w (state a b zeroed) = called .1 in
-    let l : n ≡ overlapCount (pairOf w (state a b zeroed) .answer) = en ∙ overlap-met (called .0) (r .shared) ∙ ap (λ (x : Outcome). overlapCount (x .answer)) o in
-    let h : r .stats ≡ pairOf w (state a b zeroed) .after .stats = ap (λ (x : Outcome). x .after .stats) o in
+    let called = cleared-called w (state a b zeroed) k (state a′ b′ (r .stats)) (r .shared) (rw ez at q) in
+    let o : outcome (metAnswer (called .0) (r .shared)) (state a′ b′ (r .stats)) ≡ recordsOf w (state a b zeroed) 1 2 = called .1 in
+    let l : n ≡ overlapCount (recordsOf w (state a b zeroed) 1 2 .answer) = en ∙ overlap-met (called .0) (r .shared) ∙ ap (λ (x : Outcome). overlapCount (x .answer)) o in
+    let h : r .stats ≡ recordsOf w (state a b zeroed) 1 2 .after .stats = ap (λ (x : Outcome). x .after .stats) o in
     record {
       first = ap (λ (x : Outcome). x .after .first) o;
       second = ap (λ (x : Outcome). x .after .second) o;

@@ -7,7 +7,7 @@ use Rattle.stats.specs.declared.CorrectionStats.{CorrectionStats}
 use Rattle.stats.specs.Counts.{zeroed}
 use Rattle.strategy.specs.declared.Strategies.{Strategies}
 use Rattle.positions.specs.Step.{state}
-use Rattle.pair.specs.Pair.{Outcome, pairOf}
+use Rattle.pair.specs.Pair.{Outcome, recordsOf}
 use Rattle.group_frames.specs.Frame.{beginOf}
 use Rattle.group_mates.specs.Register.{pairsOf}
 use Rattle.group_verdicts.specs.Judged.{pairAt}
@@ -24,15 +24,15 @@ added o = applied 1 (overlapCount (o .answer)) (o .after .stats)
 
 -- a and b become a′ and b′ by the pair call with counts from zero, and r is what it adds
 pub record Treats (w : Strategies) (a b a′ b′ : List ℕ) (r : Applied) : Type 0 where
-  pub first : a′ ≡ pairOf w (state a b zeroed) .after .first
-  pub second : b′ ≡ pairOf w (state a b zeroed) .after .second
-  pub adds : r ≡ added (pairOf w (state a b zeroed))
+  pub first : a′ ≡ recordsOf w (state a b zeroed) 1 2 .after .first
+  pub second : b′ ≡ recordsOf w (state a b zeroed) 1 2 .after .second
+  pub adds : r ≡ added (recordsOf w (state a b zeroed) 1 2)
 
 -- the same with the rooms in the place of the records: they begin with what a and b become
 pub record Copied (w : Strategies) (a b left right : List ℕ) (r : Applied) : Type 0 where
-  pub first : take (length a) left ≡ pairOf w (state a b zeroed) .after .first
-  pub second : take (length b) right ≡ pairOf w (state a b zeroed) .after .second
-  pub adds : r ≡ added (pairOf w (state a b zeroed))
+  pub first : take (length a) left ≡ recordsOf w (state a b zeroed) 1 2 .after .first
+  pub second : take (length b) right ≡ recordsOf w (state a b zeroed) 1 2 .after .second
+  pub adds : r ≡ added (recordsOf w (state a b zeroed) 1 2)
 
 -- the group s with every pair of its n records corrected
 abbrev pub corrected : Strategies → List ℕ → ℕ → List ℕ

@@ -1,14 +1,13 @@
 -- Within the records of a pair, a byte that holds neither a base nor a quality stays.
 use Prim.Native.Nat.{ℕ}
-use mathlib.Core.Path.{_≡_, refl, sym, _∙_, ap}
+use mathlib.Core.Path.{_≡_, refl, _∙_, ap}
 use mathlib.Core.List.{List}
 use native.Mathlib.Omega.{arith}
 use lib.ListN.{getD}
 use Rattle.fields.specs.Layout.{layoutOf}
 use Rattle.stats.specs.declared.CorrectionStats.{CorrectionStats}
-use Rattle.stats.specs.Counts.{zeroed}
 use Rattle.strategy.specs.declared.Strategies.{Strategies}
-use Rattle.positions.specs.Step.{State, state}
+use Rattle.positions.specs.Step.{State}
 use Rattle.pair_merge.specs.Promise.{Outside}
 use Rattle.pair.specs.declared.Answer.{Answer}
 use Rattle.pair.specs.declared.Answer.the-variants as Answers
@@ -17,6 +16,7 @@ use Rattle.pair.proofs.PromiseLaws.{refused-keeps, apart-keeps, promise, overla
 use Rattle.group_frames.specs.Part.{part}
 use Rattle.group_frames.specs.Frame.{startOf, endOf, recordOf}
 use Rattle.group_mates.specs.Promise.{Mates}
+use Rattle.group_verdicts.specs.Judged.{bothAt}
 use Rattle.group.specs.Promise.{Accepted}
 
 -- ---- one pair
@@ -47,7 +47,7 @@ module _ (w : Strategies) (s : State) where
 -- ---- every pair of an accepted group; byte k is counted from the record's start
 module _ (w : Strategies) (s : List ℕ) (g : CorrectionStats) (n p o : ℕ) (u : List ℕ) (h : CorrectionStats) (a : Accepted w s g n p o u h) (i j : ℕ) (m : Mates s n i j) where
   pub first-outside : (k : ℕ) → Outside (layoutOf (recordOf s i)) k → getD (part u (startOf s i) (endOf s i)) k 0 ≡ getD (recordOf s i) k 0
-  first-outside k q = ap (λ (x : List ℕ). getD x k 0) (a .first i j m) ∙ call-outside₁ w (state (recordOf s i) (recordOf s j) zeroed) k q
+  first-outside k q = ap (λ (x : List ℕ). getD x k 0) (a .first i j m ∙ ap (λ (x : Outcome). x .after .first) (a .called i j)) ∙ call-outside₁ w (bothAt s i j) k q
 
   pub second-outside : (k : ℕ) → Outside (layoutOf (recordOf s j)) k → getD (part u (startOf s j) (endOf s j)) k 0 ≡ getD (recordOf s j) k 0
-  second-outside k q = ap (λ (x : List ℕ). getD x k 0) (a .second i j m) ∙ call-outside₂ w (state (recordOf s i) (recordOf s j) zeroed) k q
+  second-outside k q = ap (λ (x : List ℕ). getD x k 0) (a .second i j m ∙ ap (λ (x : Outcome). x .after .second) (a .called i j)) ∙ call-outside₂ w (bothAt s i j) k q

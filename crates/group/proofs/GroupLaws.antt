@@ -57,20 +57,20 @@ module _ (w : Strategies) (s : List ℕ) (g : CorrectionStats) (f : Framing) (ef
         (λ i. ended (Done n (a .pairs i) (a .overlapping i)) (a .bytes i) (a .stats i)) ∙ ap (onPairs w s g n) (sym d) ∙ judged
 
 -- ---- the strategies and the counts
-module _ (m k : ℕ) (s : List ℕ) (g : CorrectionStats) (a : Numbered) (ea : a ≡ numberedOf m k) where
-  numbered : onNumbered s g a ≡ groupOf m k s g
+module _ (m k cap : ℕ) (s : List ℕ) (g : CorrectionStats) (a : Numbered) (ea : a ≡ numberedOf m k cap) where
+  numbered : onNumbered s g a ≡ groupOf m k cap s g
   unfolding groupOf
   numbered = ap (onNumbered s g) ea
 
-  pub no-strategy : (r : Refusal) → a ≡ Numbers.Refused r → (o : Grouped) → (o .answer ≡ Refused r) × (o .stats ≡ g) → ended (o .answer) s (o .stats) ≡ groupOf m k s g
+  pub no-strategy : (r : Refusal) → a ≡ Numbers.Refused r → (o : Grouped) → (o .answer ≡ Refused r) × (o .stats ≡ g) → ended (o .answer) s (o .stats) ≡ groupOf m k cap s g
   no-strategy r e o h = refusal s g r o h ∙ ap (onNumbered s g) (sym e) ∙ numbered
 
   module _ (w : Strategies) (e : a ≡ Numbers.Are w) where
-    chosen : onNumbered s g (Numbers.Are w) ≡ groupOf m k s g
+    chosen : onNumbered s g (Numbers.Are w) ≡ groupOf m k cap s g
     chosen = ap (onNumbered s g) (sym e) ∙ numbered
 
-    pub too-full : full g ≡ true → (o : Grouped) → (o .answer ≡ Refused Count) × (o .stats ≡ g) → ended (o .answer) s (o .stats) ≡ groupOf m k s g
+    pub too-full : full g ≡ true → (o : Grouped) → (o .answer ≡ Refused Count) × (o .stats ≡ g) → ended (o .answer) s (o .stats) ≡ groupOf m k cap s g
     too-full t o h = refusal s g Count o h ∙ (rw t at chosen)
 
-    pub goes-on : full g ≡ false → (u : List ℕ) (o : Grouped) → ended (o .answer) u (o .stats) ≡ framedOf w s g → ended (o .answer) u (o .stats) ≡ groupOf m k s g
+    pub goes-on : full g ≡ false → (u : List ℕ) (o : Grouped) → ended (o .answer) u (o .stats) ≡ framedOf w s g → ended (o .answer) u (o .stats) ≡ groupOf m k cap s g
     goes-on t u o h = h ∙ (rw t at chosen)

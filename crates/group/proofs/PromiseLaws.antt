@@ -11,14 +11,17 @@ use lib.ListN.{length, getD, drop}
 use lib.Seq.{ext-getD, getD-take, getD-drop}
 use Rattle.fields.proofs.Arith.{lt-or-le}
 use Rattle.refusal.specs.declared.Refusal.{Refusal}
-use Rattle.refusal.specs.declared.Refusal.the-variants.{Count, Strategy}
+use Rattle.refusal.specs.declared.Refusal.the-variants.{Count, Strategy, Cap}
 use Rattle.refusal.specs.Table.{numberOf, placeOf, operationOf}
 use Rattle.stats.specs.declared.CorrectionStats.{CorrectionStats}
 use Rattle.stats.specs.Counts.{plus, full}
 use Rattle.stats.proofs.CountLaws.{plus-assoc, plus-zero}
 use Rattle.strategy.specs.declared.Strategies.{Strategies}
 use Rattle.strategy.specs.declared.Numbered.the-variants as Numbers
+use Rattle.strategy.specs.Cap.{capOutside}
 use Rattle.strategy.specs.Number.{numberedOf}
+use Rattle.strategy.proofs.NumberLaws.{are-capped}
+use Rattle.pair.proofs.CallLaws.{call-capped, call-records}
 use Rattle.pair.specs.declared.Answer.the-variants as Answers
 use Rattle.group_frames.specs.Part.{part}
 use Rattle.group_frames.specs.declared.Framing.the-variants.{Whole}
@@ -32,15 +35,15 @@ use Rattle.group_mates.proofs.OnceLaws.{pairs-once}
 use Rattle.group_mates.proofs.MateLaws.{among-mates, mates-among}
 use Rattle.group_verdicts.specs.declared.Verdict.{Verdict}
 use Rattle.group_verdicts.specs.declared.Verdict.the-variants as Verdicts
-use Rattle.group_verdicts.specs.Judged.{pairAt}
+use Rattle.group_verdicts.specs.Judged.{bothAt, pairAt}
 use Rattle.group_applying.specs.Applied.{grown, overlapsIn}
 use Rattle.group_applying.proofs.WrittenLaws.{written-size, written-first, written-second, written-out}
 use Rattle.group.specs.declared.GroupAnswer.the-variants.{Done, Refused}
 use Rattle.group.specs.Group.{groupNumbers, Ended, ended, onPairs, onFrames, groupOf}
-use Rattle.group.specs.Promise.{Paired, Elsewhere, pairGrowths, Accepted, FirstRefused, FirstFailed, by-strategies, by-counts, by-frames, by-pair}
+use Rattle.group.specs.Promise.{Paired, Elsewhere, pairGrowths, Accepted, FirstRefused, FirstFailed, by-strategies, by-cap, by-counts, by-frames, by-pair}
 use Rattle.group.proofs.NamedLaws.{same-length, same-overlaps, same-growths}
 use Rattle.group.proofs.FirstLaws.{judgement, judged-first, judged-passed, passed-judged, first-judged}
-use Rattle.group.proofs.CaseLaws.{Case, no-strategies, full-counts, broken-frames, refused-pair, all-treated, cases, ends-unnamed, ends-full, ends-framed, ends-judged}
+use Rattle.group.proofs.CaseLaws.{Case, no-strategies, no-cap, full-counts, broken-frames, refused-pair, all-treated, cases, ends-unnamed, ends-full, ends-framed, ends-judged}
 
 -- ---- the pairs
 pub paired : (s : List ℕ) (n : ℕ) → Paired s n (pairsOf s n)
@@ -76,14 +79,15 @@ module _ (w : Strategies) (s : List ℕ) (g : CorrectionStats) (n : ℕ) where
       (λ (y : (j : ℕ) × Among (pairsOf s n) j k). a (y .0) k (y .1) .1) (times-among (pairsOf s n) k q)
 
   -- what is left when every pair passes and is treated
-  treated : framesOf s ≡ Whole n → judgement w s n ≡ Verdicts.Passed
+  treated : capOutside (w .cap) ≡ false → framesOf s ≡ Whole n → judgement w s n ≡ Verdicts.Passed
       → Accepted w s g n (length (pairsOf s n)) (overlapsIn w s (pairsOf s n)) (after .bytes) (after .stats)
-  treated framed judged =
+  treated capped framed judged =
       let fit : beginOf s n ≤ length s = omega (arith, whole-clean s n framed .1 .1) in
       let once = pairs-once s n in
       let l = pairsOf s n in
       record {
         framed = framed;
+        called = λ i j. call-records w (bothAt s i j) refl ∙ call-capped w (bothAt s i j) capped;
         passed = judged-passed w s n judged;
         first = λ i j m. written-first w s n fit l s refl once i j (mates-among s n i j m);
         second = λ i j m. written-second w s n fit l s refl once i j (mates-among s n i j m);
@@ -160,30 +164,31 @@ one-outcome w s g n p o n′ p′ o′ u u′ h h′ a b =
         a .others x (out n refl) ∙ sym (b .others x (out n′ z))
 
 -- ---- the whole call, its answer in the paper's numbers
-module _ (m k : ℕ) (s : List ℕ) (g : CorrectionStats) where
+module _ (m k cap : ℕ) (s : List ℕ) (g : CorrectionStats) where
   -- what the whole call gives
   abbrev pub call : Ended
-  call = groupOf m k s g
+  call = groupOf m k cap s g
 
   -- the answer of a call that ends so
   said : (e : Ended) → call ≡ e → groupNumbers (call .answer) ≡ groupNumbers (e .answer)
   said e d = ap (λ (x : Ended). groupNumbers (x .answer)) d
 
-  -- a group that is answered 0 and three numbers: m and k name strategies, no count is full, and it is accepted by them
+  -- a group that is answered 0 and three numbers: m and k name strategies, the cap is one, no count is full, and it is accepted by them
   pub accepted : (n p o : ℕ) → groupNumbers (call .answer) ≡ 0 ∷ n ∷ p ∷ o ∷ []
-      → (w : Strategies) × (numberedOf m k ≡ Numbers.Are w) × (full g ≡ false) × Accepted w s g n p o (call .bytes) (call .stats)
-  accepted n p o e = go (cases m k s g)
+      → (w : Strategies) × (numberedOf m k cap ≡ Numbers.Are w) × (full g ≡ false) × Accepted w s g n p o (call .bytes) (call .stats)
+  accepted n p o e = go (cases m k cap s g)
     where
       Wanted : Type 0
-      Wanted = (w : Strategies) × (numberedOf m k ≡ Numbers.Are w) × (full g ≡ false) × Accepted w s g n p o (call .bytes) (call .stats)
+      Wanted = (w : Strategies) × (numberedOf m k cap ≡ Numbers.Are w) × (full g ≡ false) × Accepted w s g n p o (call .bytes) (call .stats)
 
       never : (r : Refusal) → call ≡ ended (Refused r) s g → Wanted
       never r d =
           let q : numberOf r ∷ placeOf r ∷ operationOf r ∷ [] ≡ 0 ∷ n ∷ p ∷ o ∷ [] = sym (said (ended (Refused r) s g) d) ∙ e in
           let z : _≡_ {A = ℕ} 0 1 = cc in absurd (omega arith)
 
-      go : Case m k s g call → Wanted
+      go : Case m k cap s g call → Wanted
       go (no-strategies a d) = never Strategy d
+      go (no-cap a d) = never Cap d
       go (full-counts w a b d) = never Count d
       go (broken-frames w r a b c d) = never r d
       go (refused-pair w n₁ r a b c j d) = never r d
@@ -193,17 +198,18 @@ module _ (m k : ℕ) (s : List ℕ) (g : CorrectionStats) where
           let x : n₁ ≡ n = cc in
           let y : length l ≡ p = cc in
           let z : overlapsIn w s l ≡ o = cc in
-          (w, a, b, rw (d, sym x, sym y, sym z) (treated w s g n₁ c j))
+          (w, a, b, rw (d, sym x, sym y, sym z) (treated w s g n₁ (are-capped m k cap w a .1) c j))
 
   -- a group that is refused keeps every byte, and the counts stay
   pub refused-keeps : (r : Refusal) (u : List ℕ) (h : CorrectionStats) → call ≡ ended (Refused r) u h → (u ≡ s) × (h ≡ g)
-  refused-keeps r u h e = go (cases m k s g)
+  refused-keeps r u h e = go (cases m k cap s g)
     where
       kept : (q : Refusal) → call ≡ ended (Refused q) s g → (u ≡ s) × (h ≡ g)
       kept q d = let c = sym e ∙ d in (ap (λ (x : Ended). x .bytes) c, ap (λ (x : Ended). x .stats) c)
 
-      go : Case m k s g call → (u ≡ s) × (h ≡ g)
+      go : Case m k cap s g call → (u ≡ s) × (h ≡ g)
       go (no-strategies a d) = kept Strategy d
+      go (no-cap a d) = kept Cap d
       go (full-counts w a b d) = kept Count d
       go (broken-frames w q a b c d) = kept q d
       go (refused-pair w n q a b c j d) = kept q d
@@ -212,20 +218,21 @@ module _ (m k : ℕ) (s : List ℕ) (g : CorrectionStats) where
           let z : _≡_ {A = ℕ} 0 1 = cc in absurd (omega arith)
 
   -- number x, place y and operation z are answered exactly where the first check that fails gives them
-  pub decided : (x y z : ℕ) → (groupNumbers (call .answer) ≡ x ∷ y ∷ z ∷ []) ↔ FirstFailed m k s g x y z
-  decided x y z = (λ e. to e (cases m k s g), from x y z)
+  pub decided : (x y z : ℕ) → (groupNumbers (call .answer) ≡ x ∷ y ∷ z ∷ []) ↔ FirstFailed m k cap s g x y z
+  decided x y z = (λ e. to e (cases m k cap s g), from x y z)
     where
       by : (r : Refusal) → groupNumbers (call .answer) ≡ x ∷ y ∷ z ∷ [] → call ≡ ended (Refused r) s g
-          → FirstFailed m k s g (numberOf r) (placeOf r) (operationOf r) → FirstFailed m k s g x y z
+          → FirstFailed m k cap s g (numberOf r) (placeOf r) (operationOf r) → FirstFailed m k cap s g x y z
       by r e d f =
           let q : numberOf r ∷ placeOf r ∷ operationOf r ∷ [] ≡ x ∷ y ∷ z ∷ [] = sym (said (ended (Refused r) s g) d) ∙ e in
           let u : numberOf r ≡ x = cc in
           let v : placeOf r ≡ y = cc in
           let h : operationOf r ≡ z = cc in
-          subst (FirstFailed m k s g x y) h (subst₂ (λ (i j : ℕ). FirstFailed m k s g i j (operationOf r)) u v f)
+          subst (FirstFailed m k cap s g x y) h (subst₂ (λ (i j : ℕ). FirstFailed m k cap s g i j (operationOf r)) u v f)
 
-      to : groupNumbers (call .answer) ≡ x ∷ y ∷ z ∷ [] → Case m k s g call → FirstFailed m k s g x y z
+      to : groupNumbers (call .answer) ≡ x ∷ y ∷ z ∷ [] → Case m k cap s g call → FirstFailed m k cap s g x y z
       to e (no-strategies a d) = by Strategy e d (by-strategies a)
+      to e (no-cap a d) = by Cap e d (by-cap a)
       to e (full-counts w a b d) = by Count e d (by-counts w a b)
       to e (broken-frames w r a b c d) = by r e d (by-frames w r a b c)
       to e (refused-pair w n r a b c j d) = by r e d (by-pair w n r a b c (judged-first w s n r j))
@@ -233,29 +240,30 @@ module _ (m k : ℕ) (s : List ℕ) (g : CorrectionStats) where
           let q : 0 ∷ n ∷ _ ∷ _ ∷ [] ≡ x ∷ y ∷ z ∷ [] = sym (said (onPairs w s g n Verdicts.Passed) d) ∙ e in
           let c : _≡_ {A = ℕ} 0 1 = cc in absurd (omega arith)
 
-      from : (x₁ y₁ z₁ : ℕ) → FirstFailed m k s g x₁ y₁ z₁ → groupNumbers (call .answer) ≡ x₁ ∷ y₁ ∷ z₁ ∷ []
-      from x₁ y₁ z₁ (by-strategies a) = said _ (ends-unnamed m k s g a)
-      from x₁ y₁ z₁ (by-counts w a b) = said _ (ends-full m k s g w a b)
-      from x₁ y₁ z₁ (by-frames w r a b c) = said _ (ends-framed m k s g w a b ∙ ap (onFrames w s g) c)
-      from x₁ y₁ z₁ (by-pair w n r a b c f) = said _ (ends-judged m k s g w a b n c (Verdicts.Refused r) (first-judged w s n r f))
+      from : (x₁ y₁ z₁ : ℕ) → FirstFailed m k cap s g x₁ y₁ z₁ → groupNumbers (call .answer) ≡ x₁ ∷ y₁ ∷ z₁ ∷ []
+      from x₁ y₁ z₁ (by-strategies a) = said _ (ends-unnamed m k cap s g Strategy a)
+      from x₁ y₁ z₁ (by-cap a) = said _ (ends-unnamed m k cap s g Cap a)
+      from x₁ y₁ z₁ (by-counts w a b) = said _ (ends-full m k cap s g w a b)
+      from x₁ y₁ z₁ (by-frames w r a b c) = said _ (ends-framed m k cap s g w a b ∙ ap (onFrames w s g) c)
+      from x₁ y₁ z₁ (by-pair w n r a b c f) = said _ (ends-judged m k cap s g w a b n c (Verdicts.Refused r) (first-judged w s n r f))
 
-  -- 0 and three numbers, n the first, are answered exactly where m and k name strategies, no count is full, the n frames are whole and no
+  -- 0 and three numbers, n the first, are answered exactly where m and k name strategies, the cap is one, no count is full, the n frames are whole and no
   -- pair of mates is refused
   pub done-exactly : (n : ℕ) → ((p : ℕ) × (o : ℕ) × (groupNumbers (call .answer) ≡ 0 ∷ n ∷ p ∷ o ∷ []))
-      ↔ ((w : Strategies) × (numberedOf m k ≡ Numbers.Are w) × (full g ≡ false) × (framesOf s ≡ Whole n)
+      ↔ ((w : Strategies) × (numberedOf m k cap ≡ Numbers.Are w) × (full g ≡ false) × (framesOf s ≡ Whole n)
       × ((i j : ℕ) (r : Refusal) → Mates s n i j → pairAt w s i j .answer ≡ Answers.Refused r → ⊥))
   done-exactly n = (
     λ d. let x = accepted n (d .0) (d .1) (d .2) in (x .0, x .1, x .2, x .3 .framed, x .3 .passed),
-    λ c. (_, _, said _ (ends-judged m k s g (c .0) (c .1) (c .2) n (c .3) Verdicts.Passed (passed-judged (c .0) s n (c .4)))),
+    λ c. (_, _, said _ (ends-judged m k cap s g (c .0) (c .1) (c .2) n (c .3) Verdicts.Passed (passed-judged (c .0) s n (c .4)))),
   )
 
   -- a group that is refused where strategies, counts and frames are not is refused by the first refused pair
   pub first-refused : (r : Refusal) → call .answer ≡ Refused r
-      → (w : Strategies) → numberedOf m k ≡ Numbers.Are w → full g ≡ false → (n : ℕ) → framesOf s ≡ Whole n → FirstRefused w s n r
+      → (w : Strategies) → numberedOf m k cap ≡ Numbers.Are w → full g ≡ false → (n : ℕ) → framesOf s ≡ Whole n → FirstRefused w s n r
   first-refused r e w a b n c = go (judgement w s n) refl
     where
       answer : (v : Verdict) → judgement w s n ≡ v → Refused r ≡ onPairs w s g n v .answer
-      answer v d = sym e ∙ ap (λ (x : Ended). x .answer) (ends-judged m k s g w a b n c v d)
+      answer v d = sym e ∙ ap (λ (x : Ended). x .answer) (ends-judged m k cap s g w a b n c v d)
 
       go : (v : Verdict) → judgement w s n ≡ v → FirstRefused w s n r
       go (Verdicts.Refused q) d =
@@ -267,5 +275,5 @@ module _ (m k : ℕ) (s : List ℕ) (g : CorrectionStats) where
           let z : _≡_ {A = ℕ} 0 1 = cc in absurd (omega arith)
 
   -- no second refusal fits
-  pub one-refusal : (x y z x′ y′ z′ : ℕ) → FirstFailed m k s g x y z → FirstFailed m k s g x′ y′ z′ → (x ≡ x′) × (y ≡ y′) × (z ≡ z′)
+  pub one-refusal : (x y z x′ y′ z′ : ℕ) → FirstFailed m k cap s g x y z → FirstFailed m k cap s g x′ y′ z′ → (x ≡ x′) × (y ≡ y′) × (z ≡ z′)
   one-refusal x y z x′ y′ z′ a b = let q : x ∷ y ∷ z ∷ [] ≡ x′ ∷ y′ ∷ z′ ∷ [] = sym (decided x y z .1 a) ∙ decided x′ y′ z′ .1 b in (cc, cc, cc)

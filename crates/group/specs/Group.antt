@@ -50,10 +50,10 @@ onFrames w s g (Whole n) = onPairs w s g n (judgeBy (verdictAt w s) (pairsOf s n
 unfoldable pub framedOf : Strategies → List ℕ → CorrectionStats → Ended
 framedOf w s g = onFrames w s g (framesOf s)
 
--- 10, then 9, then the rest
+-- 10, then 22, then 9, then the rest
 abbrev pub onNumbered : List ℕ → CorrectionStats → Numbered → Ended
 onNumbered s g (Numbers.Refused r) = ended (Refused r) s g
 onNumbered s g (Numbers.Are w) = cond (full g) (ended (Refused Count) s g) (framedOf w s g)
 
-unfoldable pub groupOf : ℕ → ℕ → List ℕ → CorrectionStats → Ended
-groupOf agreement disagreement s g = onNumbered s g (numberedOf agreement disagreement)
+unfoldable pub groupOf : ℕ → ℕ → ℕ → List ℕ → CorrectionStats → Ended
+groupOf agreement disagreement cap s g = onNumbered s g (numberedOf agreement disagreement cap)

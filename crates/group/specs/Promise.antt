@@ -7,7 +7,7 @@ use mathlib.Core.List.{List, [], _∷_}
 use mathlib.Core.Logic.{_⊎_}
 use lib.ListN.{length, getD}
 use Rattle.refusal.specs.declared.Refusal.{Refusal}
-use Rattle.refusal.specs.declared.Refusal.the-variants.{Strategy}
+use Rattle.refusal.specs.declared.Refusal.the-variants.{Strategy, Cap}
 use Rattle.refusal.specs.Table.{numberOf, placeOf, operationOf}
 use Rattle.stats.specs.declared.CorrectionStats.{CorrectionStats}
 use Rattle.stats.specs.Counts.{zeroed, plus, full}
@@ -15,12 +15,13 @@ use Rattle.strategy.specs.declared.Strategies.{Strategies}
 use Rattle.strategy.specs.declared.Numbered.the-variants as Numbers
 use Rattle.strategy.specs.Number.{numberedOf}
 use Rattle.pair.specs.declared.Answer.the-variants as Answers
+use Rattle.pair.specs.Pair.{pairOf}
 use Rattle.group_frames.specs.Part.{part}
 use Rattle.group_frames.specs.declared.Framing.the-variants.{Whole, Broken}
 use Rattle.group_frames.specs.Frame.{startOf, endOf, framesOf}
 use Rattle.fields.specs.Among.{Among}
 use Rattle.group_mates.specs.Promise.{Mates, Once}
-use Rattle.group_verdicts.specs.Judged.{pairAt, judgedAt}
+use Rattle.group_verdicts.specs.Judged.{bothAt, pairAt, judgedAt}
 use Rattle.group_applying.specs.Applied.{overlapsIn}
 
 -- the list has each pair of mates, and no other; each record stands in at most one
@@ -38,9 +39,11 @@ unfoldable pub pairGrowths : Strategies → List ℕ → List (ℕ × ℕ) → C
 pairGrowths w s [] = zeroed
 pairGrowths w s (e ∷ l) = plus (pairAt w s (e .0) (e .1) .after .stats) (pairGrowths w s l)
 
--- a group s that is accepted with the counts g: n records, p pairs of which o overlap; u and h are what it leaves
+-- a group s that is accepted with the counts g: n records, p pairs of which o overlap; u and h are what it leaves. `called`: what stands
+-- for a pair here is what the pair call gives, with counts from 0
 pub record Accepted (w : Strategies) (s : List ℕ) (g : CorrectionStats) (n p o : ℕ) (u : List ℕ) (h : CorrectionStats) : Type 0 where
   pub framed : framesOf s ≡ Whole n
+  pub called : (i j : ℕ) → pairAt w s i j ≡ pairOf w (bothAt s i j)
   pub passed : (i j : ℕ) (r : Refusal) → Mates s n i j → pairAt w s i j .answer ≡ Answers.Refused r → ⊥
   pub first : (i j : ℕ) → Mates s n i j → part u (startOf s i) (endOf s i) ≡ pairAt w s i j .after .first
   pub second : (i j : ℕ) → Mates s n i j → part u (startOf s j) (endOf s j) ≡ pairAt w s i j .after .second
@@ -56,10 +59,11 @@ pub record FirstRefused (w : Strategies) (s : List ℕ) (n : ℕ) (r : Refusal) 
   pub refused : judgedAt w s i j ≡ Answers.Refused r
   pub before : (i′ j′ : ℕ) (r′ : Refusal) → Mates s n i′ j′ → i′ < i → judgedAt w s i′ j′ ≡ Answers.Refused r′ → ⊥
 
--- the number x, the place y and the operation z of the first check that fails: of the strategies' numbers m and k, the counts g, the frames of s, its pairs
-pub data FirstFailed (m k : ℕ) (s : List ℕ) (g : CorrectionStats) : ℕ → ℕ → ℕ → Type 0 where
-  by-strategies : numberedOf m k ≡ Numbers.Refused Strategy → FirstFailed m k s g 10 0 0
-  by-counts : (w : Strategies) → numberedOf m k ≡ Numbers.Are w → full g ≡ true → FirstFailed m k s g 9 0 0
-  by-frames : (w : Strategies) (r : Refusal) → numberedOf m k ≡ Numbers.Are w → full g ≡ false → framesOf s ≡ Broken r → FirstFailed m k s g (numberOf r) (placeOf r) (operationOf r)
-  by-pair : (w : Strategies) (n : ℕ) (r : Refusal) → numberedOf m k ≡ Numbers.Are w → full g ≡ false → framesOf s ≡ Whole n → FirstRefused w s n r
-      → FirstFailed m k s g (numberOf r) (placeOf r) (operationOf r)
+-- the number x, the place y and the operation z of the first check that fails: of the strategies' numbers m and k, the cap, the counts g, the frames of s, its pairs
+pub data FirstFailed (m k cap : ℕ) (s : List ℕ) (g : CorrectionStats) : ℕ → ℕ → ℕ → Type 0 where
+  by-strategies : numberedOf m k cap ≡ Numbers.Refused Strategy → FirstFailed m k cap s g 10 0 0
+  by-cap : numberedOf m k cap ≡ Numbers.Refused Cap → FirstFailed m k cap s g 22 0 0
+  by-counts : (w : Strategies) → numberedOf m k cap ≡ Numbers.Are w → full g ≡ true → FirstFailed m k cap s g 9 0 0
+  by-frames : (w : Strategies) (r : Refusal) → numberedOf m k cap ≡ Numbers.Are w → full g ≡ false → framesOf s ≡ Broken r → FirstFailed m k cap s g (numberOf r) (placeOf r) (operationOf r)
+  by-pair : (w : Strategies) (n : ℕ) (r : Refusal) → numberedOf m k cap ≡ Numbers.Are w → full g ≡ false → framesOf s ≡ Whole n → FirstRefused w s n r
+      → FirstFailed m k cap s g (numberOf r) (placeOf r) (operationOf r)

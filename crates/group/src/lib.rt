@@ -89,13 +89,19 @@ fn group_framed(
     }
 }
 
-// Corrects the overlapping pairs of a group of framed records where they stand, by the strategies of
-// these numbers, and adds to the counts. Refused, the group and the counts are as they came.
-pub fn group(buf: &mut [u8], agreement: u32, disagreement: u32, stats: CorrectionStats) -> Grouped
-    ensures { λ r. ⌜ ended (r .answer) (now (buf .exit)) (r .stats) ≡ groupOf agreement disagreement (now (buf .entry)) stats ⌝ }
+// Corrects the overlapping pairs of a group of framed records where they stand, by the strategies and the
+// cap of these numbers, and adds to the counts. Refused, the group and the counts are as they came.
+pub fn group(
+    buf: &mut [u8],
+    agreement: u32,
+    disagreement: u32,
+    cap: u32,
+    stats: CorrectionStats,
+) -> Grouped
+    ensures { λ r. ⌜ ended (r .answer) (now (buf .exit)) (r .stats) ≡ groupOf agreement disagreement cap (now (buf .entry)) stats ⌝ }
 {
     let mut room = [0u8; 65536];
-    let numbered = strategy::by_number(agreement, disagreement);
+    let numbered = strategy::by_number(agreement, disagreement, cap);
     match numbered {
         Numbered::Refused(r) => refused(r, stats),
         Numbered::Are(w) => {

@@ -15,7 +15,7 @@ use Rattle.positions.specs.Step.{state}
 use Rattle.pair_merge.specs.declared.Met.{Met}
 use Rattle.pair.specs.declared.Answer.{Answer}
 use Rattle.pair.specs.declared.Answer.the-variants.{NoOverlap, Overlap, Refused}
-use Rattle.pair.specs.Pair.{Outcome, pairOf}
+use Rattle.pair.specs.Pair.{Outcome, recordsOf}
 use Rattle.group_frames.specs.Part.{part, splice}
 use Rattle.group_frames.specs.Frame.{beginOf, startOf, endOf, recordOf}
 use Rattle.group_frames.specs.Table.{FrameTable}
@@ -137,7 +137,7 @@ module _ (w : Strategies) (s₀ : List ℕ) (g₀ : CorrectionStats) (n i : ℕ)
 
       module _ (s′ : List ℕ) (r : Met) (put : BothPut w s (startIn begins i) (endIn begins i) (startIn begins (m - 1)) (endIn begins (m - 1)) s′ r) where
         call-is : callIn w s (startIn begins i) (endIn begins i) (startIn begins (m - 1)) (endIn begins (m - 1)) ≡ pairAt w s₀ i (m - 1)
-        call-is = ap₂ (λ (x y : List ℕ). pairOf w (state x y zeroed)) part₁ part₂
+        call-is = ap₂ (λ (x y : List ℕ). recordsOf w (state x y zeroed) 1 2) part₁ part₂
 
         stats-is : r .stats ≡ pairAt w s₀ i (m - 1) .after .stats
         stats-is = put .stats ∙ ap (λ (x : Outcome). x .after .stats) call-is

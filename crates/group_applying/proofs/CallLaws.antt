@@ -1,18 +1,16 @@
 -- What any pair call keeps: the lengths of both records; and by how much its counts can grow.
-use Prim.Native.Nat.{ℕ, zero, suc, _+_, _-_, _*_, _≤_, _<_}
+use Prim.Native.Nat.{ℕ, suc, _+_, _-_, _*_, _≤_}
 use mathlib.Core.Path.{_≡_, refl}
-use mathlib.Core.Bool.{Bool, true, false, cond}
+use mathlib.Core.Bool.{Bool, true, false}
 use mathlib.Core.List.{List, [], _∷_}
 use native.Mathlib.Omega.{arith}
 use lib.ListN.{length}
-use Rattle.refusal.specs.declared.Refusal.the-variants.{Count}
 use Rattle.fields.specs.declared.Layout.{Layout}
 use Rattle.fields.specs.declared.Checked.{Checked}
 use Rattle.fields.specs.declared.Checked.the-variants.{Good, Bad}
 use Rattle.fields.specs.Check.{checkOf}
 use Rattle.fields.proofs.CheckLaws.{good-sound}
-use Rattle.stats.specs.declared.CorrectionStats.{CorrectionStats}
-use Rattle.stats.specs.Counts.{zeroed, full}
+use Rattle.stats.specs.Counts.{zeroed}
 use Rattle.stats.specs.Room.{AtMost}
 use Rattle.stats.proofs.CountLaws.{most-less, most-plus}
 use Rattle.strategy.specs.declared.Strategies.{Strategies}
@@ -25,9 +23,8 @@ use Rattle.pair_merge.specs.Shared.{shared, merged}
 use Rattle.pair_merge.proofs.PromiseLaws.{shared-rises}
 use Rattle.pair_judgement.specs.declared.Judged.{Judged}
 use Rattle.pair_judgement.specs.declared.Judged.the-variants as Judge
-use Rattle.pair.specs.declared.Answer.the-variants as Answers
 use Rattle.pair_judgement.specs.Judgement.{judgedOf}
-use Rattle.pair.specs.Pair.{Outcome, outcome, onReference, onJudged, onGood, recordsOf, pairOf}
+use Rattle.pair.specs.Pair.{Outcome, onReference, onJudged, onGood, recordsOf}
 use Rattle.pair_judgement.specs.Reason.{lengthless}
 use Rattle.pair_judgement.proofs.TreatLaws.{few-bases}
 
@@ -52,13 +49,9 @@ long-judged w y z s (Judge.Both p q) = go (lengthless p q)
         let h = steps-length (job w y z) (shared y z (p .start) (q .start) (s .first) (s .second)) s in
         record { first = h .0; second = h .1 }
 
-pub call-long : (w : Strategies) (s : State) → Long s (pairOf w s)
-unfolding pairOf recordsOf
-call-long w s = go (full (s .stats))
-  where
-    go : (t : Bool) → Long s (cond t (outcome (Answers.Refused Count) s) (recordsOf w s 1 2))
-    go true = record { first = refl; second = refl }
-    go false = long-good s (checkOf (s .first) 1) _ (λ y. long-good s (checkOf (s .second) 2) _ (λ z. long-judged w y z s (judgedOf y z (s .first) (s .second) 1 2)))
+pub call-long : (w : Strategies) (s : State) → Long s (recordsOf w s 1 2)
+unfolding recordsOf
+call-long w s = long-good s (checkOf (s .first) 1) _ (λ y. long-good s (checkOf (s .second) 2) _ (λ z. long-judged w y z s (judgedOf y z (s .first) (s .second) 1 2)))
 
 -- ---- no count grows by more than 131,072
 steps-most : (w : Job) (l : List (ℕ × ℕ)) (s : State) (n : ℕ) → AtMost n (s .stats) → AtMost (n + 2 * length l) (steps w l s .stats)
@@ -93,8 +86,8 @@ module _ (w : Strategies) (a b : List ℕ) where
           let few = rises-length (y .count) (z .count) 0 0 (shared y z (p .start) (q .start) a b) (shared-rises w y z (p .start) (q .start) s) in
           most-less (0 + 2 * length l) 131072 _ (omega (arith, few)) (steps-most (job w y z) l s 0 (zero-most 0))
 
-  pub call-most : AtMost 131072 (pairOf w (state a b zeroed) .after .stats)
-  unfolding pairOf recordsOf
+  pub call-most : AtMost 131072 (recordsOf w (state a b zeroed) 1 2 .after .stats)
+  unfolding recordsOf
   call-most = first (checkOf a 1) refl
     where
       second : (y : Layout) → 2 * y .count ≤ 131072 → (k : Checked) → AtMost 131072 (onGood k s (λ z. onJudged w y z s (judgedOf y z a b 1 2)) .after .stats)

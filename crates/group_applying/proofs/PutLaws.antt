@@ -66,7 +66,7 @@ module _ (w : Strategies) (s room : List ℕ) (a e b h : ℕ) (k : Within s (len
       → d ≡ part (splice (splice room 0 (h - b) c) 0 (h - b) v) 0 (h - b)
       → BothPut w s a e b h (splice (splice s a e f) b h d) r
   put-as j r z f v d ez q lv ed =
-      let called = cleared-called w (state (part s a e) (part s b h) zeroed) refl j (state f v (r .stats)) (r .shared) (rw (lent-is, ez) at q) in
+      let called = cleared-called w (state (part s a e) (part s b h) zeroed) j (state f v (r .stats)) (r .shared) (rw (lent-is, ez) at q) in
       let o : outcome (metAnswer (called .0) (r .shared)) (state f v (r .stats)) ≡ callIn w s a e b h = called .1 in
       let i : h - b ≤ length lent = omega (arith, lent-size, k .room) in
       let back : d ≡ v = ed ∙ part-put lent v 0 (h - b) (omega arith) i (lv ∙ length-part lent 0 (h - b) (omega arith) i) in

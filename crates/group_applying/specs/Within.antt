@@ -8,7 +8,7 @@ use Rattle.strategy.specs.declared.Strategies.{Strategies}
 use Rattle.positions.specs.Step.{state}
 use Rattle.pair_merge.specs.declared.Met.{Met}
 use Rattle.pair_judgement.specs.Ready.{Cleared}
-use Rattle.pair.specs.Pair.{Outcome, pairOf}
+use Rattle.pair.specs.Pair.{Outcome, recordsOf}
 use Rattle.group_frames.specs.Part.{part, splice}
 use Rattle.group_applying.specs.Applied.{overlapCount}
 
@@ -21,7 +21,7 @@ pub record Within (s : List ℕ) (m a e b h : ℕ) : Type 0 where
   pub room : h - b ≤ m
 
 abbrev pub callIn : Strategies → List ℕ → ℕ → ℕ → ℕ → ℕ → Outcome
-callIn w s a e b h = pairOf w (state (part s a e) (part s b h) zeroed)
+callIn w s a e b h = recordsOf w (state (part s a e) (part s b h) zeroed) 1 2
 
 -- how much a pair that shares so many positions adds to the number of overlapping ones
 abbrev pub overlapOf : ℕ → ℕ

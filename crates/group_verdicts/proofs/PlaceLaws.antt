@@ -40,7 +40,7 @@ use Rattle.pair_judgement.specs.Reason.{lengthless}
 use Rattle.pair_judgement.specs.Judgement.{onUses, onSpan, onPosition, spanIn, mappedOf, judgedOf}
 use Rattle.pair.specs.declared.Answer.{Answer}
 use Rattle.pair.specs.declared.Answer.the-variants as Answers
-use Rattle.pair.specs.Pair.{Outcome, answerOf, onReference, onJudged, onGood, recordsOf, pairOf}
+use Rattle.pair.specs.Pair.{Outcome, answerOf, onReference, onJudged, onGood, recordsOf}
 use Rattle.group_verdicts.specs.Judged.{bothAt, pairAt, judgedAt, Named, apart, overlap, at-first, at-second}
 
 -- ---- one record, named by x and named by y
@@ -178,7 +178,6 @@ module _ (i j : ℕ) where
 module _ (w : Strategies) (s : List ℕ) (i j : ℕ) where
   -- they are judged as by the pair call, a refusal named by the index for the place
   pub named : Named i j (pairAt w s i j .answer) (judgedAt w s i j)
-  unfolding pairOf
   named = records-named i j w (bothAt s i j)
 
   -- where the group refuses them, so does the pair call

@@ -10,7 +10,7 @@ use Rattle.positions.specs.Step.{State, state}
 use Rattle.pair_judgement.specs.declared.Reason.{Reason}
 use Rattle.pair.specs.declared.Answer.{Answer}
 use Rattle.pair.specs.declared.Answer.the-variants as Answers
-use Rattle.pair.specs.Pair.{Outcome, recordsOf, pairOf}
+use Rattle.pair.specs.Pair.{Outcome, recordsOf}
 use Rattle.group_frames.specs.Frame.{recordOf}
 use Rattle.group_verdicts.specs.declared.Verdict.{Verdict}
 use Rattle.group_verdicts.specs.declared.Verdict.the-variants.{Passed, Refused}
@@ -19,9 +19,9 @@ use Rattle.group_verdicts.specs.declared.Verdict.the-variants.{Passed, R
 abbrev pub bothAt : List ℕ → ℕ → ℕ → State
 bothAt s i j = state (recordOf s i) (recordOf s j) zeroed
 
--- what the pair call gives for them
+-- what the pair call gives for them, from step 3 on: the group has judged the cap and the statistics
 abbrev pub pairAt : Strategies → List ℕ → ℕ → ℕ → Outcome
-pairAt w s i j = pairOf w (bothAt s i j)
+pairAt w s i j = recordsOf w (bothAt s i j) 1 2
 
 -- how they are judged: as in the pair call from step 3 on, a refusal at the index of the record at fault
 abbrev pub judgedAt : Strategies → List ℕ → ℕ → ℕ → Answer

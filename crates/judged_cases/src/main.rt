@@ -141,6 +141,16 @@ fn strategies(disagreement: DisagreementStrategy) -> Strategies {
     Strategies {
         agreement: AgreementStrategy::Consensus,
         disagreement,
+        cap: strategy::FULL_CAP,
+    }
+}
+
+// Bases that agree as asked, up to this cap, and those that disagree by Consensus.
+fn up_to(cap: u8, agreement: AgreementStrategy) -> Strategies {
+    Strategies {
+        agreement,
+        disagreement: DisagreementStrategy::Consensus,
+        cap,
     }
 }
 
@@ -231,6 +241,48 @@ fn treated() {
     one(masked, 8, 10, 1, 30);
 }
 
+// What they become on a scale that stops at 40: the cap binds agreement under Consensus alone.
+fn capped() {
+    let added = up_to(40, AgreementStrategy::Consensus);
+    one(added, 1, 30, 1, 9);
+    one(added, 1, 30, 1, 10);
+    one(added, 1, 30, 1, 11);
+    one(added, 1, 40, 1, 0);
+    one(added, 1, 255, 1, 93);
+    one(added, 8, 255, 1, 30);
+    let larger = up_to(40, AgreementStrategy::MaxQual);
+    one(larger, 1, 60, 1, 50);
+    let passed = up_to(40, AgreementStrategy::PassThrough);
+    one(passed, 1, 60, 1, 50);
+}
+
+// A pair by a cap that may be none.
+fn cap(n: u8) {
+    let mut first = [0u8; 64];
+    let mut second = [0u8; 64];
+    lay_one(&mut first, 1, 30);
+    lay_one(&mut second, 1, 20);
+    say_next(b"cap ", n as u64);
+    let w = up_to(n, AgreementStrategy::Consensus);
+    let called = pair::call(&mut first, &mut second, w, CorrectionStats::new());
+    let answer = called.answer;
+    say_answer(answer);
+    say(b", ");
+    say_one(&first);
+    say_one(&second);
+    say(b"\n");
+}
+
+// Each limit of the cap, and one off.
+fn caps() {
+    cap(0);
+    cap(1);
+    cap(2);
+    cap(93);
+    cap(94);
+    cap(255);
+}
+
 // Which bases meet. The paper's pos 2147483642 is position 2147483643 when counted from 1.
 fn placed() {
     meet(9, b"2S3M1D2M", 7, 11, b"2M1I3M", 6);
@@ -297,6 +349,8 @@ fn merge(a: u64, b: u64) {
 
 fn main() {
     treated();
+    capped();
+    caps();
     placed();
     zeros();
     lengths();

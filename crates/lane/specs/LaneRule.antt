@@ -2,7 +2,7 @@
 use Prim.Native.Nat.{ℕ}
 use mathlib.Core.Bool.{cond, _&&_}
 use lib.Dec.{eqb}
-use Rattle.strategy.specs.declared.AgreementStrategy.{AgreementStrategy}
+use Rattle.strategy.specs.declared.Strategies.{Strategies}
 use Rattle.strategy.specs.Rule.{agreedQual}
 use Rattle.lane.specs.declared.Qualities.{Qualities}
 
@@ -14,8 +14,8 @@ abbrev pub qualities : ℕ → ℕ → Qualities
 qualities p q = record { qual1 = p; qual2 = q }
 
 -- what the qualities a and b of two bases that agree become
-abbrev pub agreedOf : AgreementStrategy → ℕ → ℕ → Qualities
-agreedOf m a b = qualities (agreedQual m a b) (agreedQual m b a)
+abbrev pub agreedOf : Strategies → ℕ → ℕ → Qualities
+agreedOf w a b = qualities (agreedQual w a b) (agreedQual w b a)
 
 abbrev pub chosen : ℕ → ℕ → ℕ → ℕ
 chosen e q p = cond (eqb e 0) p q

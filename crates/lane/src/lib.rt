@@ -2,6 +2,7 @@
 // chosen by value, so that a loop over lanes has no branch and is done many lanes at a time.
 use stats::CorrectionStats;
 use strategy::AgreementStrategy;
+use strategy::Strategies;
 ghost use mathlib.Core.Path.{_≡_};
 ghost use Prim.Native.Nat.{_+_, min, max};
 ghost use Rattle.stats.specs.Counts.{counts};
@@ -33,24 +34,19 @@ fn summed(a: u8, b: u8) -> u8
     if 255 - b < a { 255 } else { a + b }
 }
 
-// The smaller of the sum and 93.
-fn capped(a: u8, b: u8) -> u8
-    ensures { λ r. ⌜ r ≡ min (a + b) 93 ⌝ }
-{
-    smaller(summed(a, b), 93)
-}
-
 // What the qualities a and b become where the bases agree.
-pub fn agreed(m: AgreementStrategy, a: u8, b: u8) -> Qualities
-    ensures { λ r. ⌜ r ≡ agreedOf m a b ⌝ }
+pub fn agreed(w: Strategies, a: u8, b: u8) -> Qualities
+    ensures { λ r. ⌜ r ≡ agreedOf w a b ⌝ }
 {
+    let m = w.agreement;
+    let most = w.most();
     match m {
         AgreementStrategy::Consensus => {
-            let q = capped(a, b);
+            let q = smaller(summed(a, b), most);
             Qualities { qual1: q, qual2: q }
         }
         AgreementStrategy::MaxQual => {
-            let q = larger(a, b);
+            let q = smaller(larger(a, b), most);
             Qualities { qual1: q, qual2: q }
         }
         AgreementStrategy::PassThrough => Qualities { qual1: a, qual2: b },

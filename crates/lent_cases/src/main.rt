@@ -229,6 +229,16 @@ fn consensus() -> Strategies {
     Strategies {
         agreement: AgreementStrategy::Consensus,
         disagreement: DisagreementStrategy::Consensus,
+        cap: strategy::FULL_CAP,
+    }
+}
+
+// The same with another cap.
+fn capped(cap: u8) -> Strategies {
+    Strategies {
+        agreement: AgreementStrategy::Consensus,
+        disagreement: DisagreementStrategy::Consensus,
+        cap,
     }
 }
 
@@ -266,16 +276,43 @@ fn overlaps() {
     let masked = Strategies {
         agreement: AgreementStrategy::MaxQual,
         disagreement: DisagreementStrategy::MaskBoth,
+        cap: strategy::FULL_CAP,
     };
     say(b"MaxQual and MaskBoth");
     run(false, masked, unchanged(), unchanged(), counts(0, 0, 0, 0));
     let lower = Strategies {
         agreement: AgreementStrategy::PassThrough,
         disagreement: DisagreementStrategy::MaskLowerQual,
+        cap: strategy::FULL_CAP,
     };
     say(b"PassThrough and MaskLowerQual");
     run(false, lower, unchanged(), unchanged(), counts(4, 3, 2, 1));
     numbered(b"pos 3", 4, 3);
+}
+
+// A cap, which may be none, and lent counts.
+fn cap(n: u8, stats: CorrectionStats) {
+    say_next(b"cap ", wide(n));
+    run(false, capped(n), unchanged(), unchanged(), stats);
+}
+
+// Each limit of the cap and one off; refusal 22 before 9, and before a refusal of a record.
+fn caps() {
+    let lent = counts(10, 20, 30, 40);
+    cap(1, lent);
+    cap(2, lent);
+    cap(41, lent);
+    cap(93, lent);
+    cap(94, lent);
+    cap(93, with(0, LIMIT + 1));
+    cap(94, with(0, LIMIT + 1));
+    say(b"cap 1 and 31 bytes");
+    let short = Change {
+        size: 31,
+        at: 0,
+        n: 0,
+    };
+    run(false, capped(1), short, unchanged(), lent);
 }
 
 // No overlap: the counts and the records stay.
@@ -387,6 +424,7 @@ fn merge_limit(k: u8) {
 
 fn main() {
     overlaps();
+    caps();
     apart();
     refused();
     full(0);

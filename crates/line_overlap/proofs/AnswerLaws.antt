@@ -46,7 +46,7 @@ unfolding overlapOf
 too-long s out out′ r h p l = told-line s out out′ (refusalText Input) r (rw (lt-ltb 65536 (length s) h)) p l
 
 module _ (s : List ℕ) (fits : length s ≤ 65536) where
-  opened : overlapOf s ≡ outputOf (groupOf (numberAt s 0) (numberAt s 1) (drop 2 s) zeroed)
+  opened : overlapOf s ≡ outputOf (groupOf (numberAt s 0) (numberAt s 1) 93 (drop 2 s) zeroed)
   unfolding overlapOf
   opened = rw (le-ltb 65536 (length s) fits)
 
@@ -56,7 +56,7 @@ module _ (s : List ℕ) (fits : length s ≤ 65536) where
       let e : numberAt s 1 ≡ 3 = rw (le-ltb 1 (length s) (omega arith)) in
       rw (opened, e) (go (agreementOf (numberAt s 0)))
     where
-      go : (m : Option AgreementStrategy) → alone (refusalText Strategy) ≡ outputOf (onNumbered (drop 2 s) zeroed (both m none))
+      go : (m : Option AgreementStrategy) → alone (refusalText Strategy) ≡ outputOf (onNumbered (drop 2 s) zeroed (both m none 93))
       go none = refl
       go (some m) = refl
 
@@ -65,18 +65,18 @@ module _ (s : List ℕ) (fits : length s ≤ 65536) where
 
   -- ---- the group was called, on the bytes from 2 on
   module _ (m k : ℕ) (em : m ≡ numberAt s 0) (ek : k ≡ numberAt s 1) (two : 2 ≤ length s) (z : CorrectionStats) (ez : z ≡ zeroed) (g : Grouped) (u : List ℕ)
-      (eg : ended (g .answer) u (g .stats) ≡ groupOf m k (part s 2 (length s)) z) (size : length u ≡ length (part s 2 (length s))) (a : GroupAnswer) (ea : g .answer ≡ a) where
+      (eg : ended (g .answer) u (g .stats) ≡ groupOf m k 93 (part s 2 (length s)) z) (size : length u ≡ length (part s 2 (length s))) (a : GroupAnswer) (ea : g .answer ≡ a) where
     rest : part s 2 (length s) ≡ drop 2 s
     rest = take-all (length s - 2) (drop 2 s) (omega (arith, length-drop 2 s))
 
     told : outputBy a (ended a u (g .stats)) ≡ overlapOf s
     told =
         ap (λ (x : GroupAnswer). outputOf (ended x u (g .stats))) (sym ea)
-        ∙ ap outputOf (eg ∙ (λ i. groupOf (em i) (ek i) (rest i) (ez i))) ∙ sym opened
+        ∙ ap outputOf (eg ∙ (λ i. groupOf (em i) (ek i) 93 (rest i) (ez i))) ∙ sym opened
 
     kept : (r : Refusal) → a ≡ Refused r → splice s 2 (length s) u ≡ s
     kept r e =
-        let w : u ≡ part s 2 (length s) = refused-keeps m k (part s 2 (length s)) z r u (g .stats) (sym eg ∙ ap (λ (x : GroupAnswer). ended x u (g .stats)) (ea ∙ e)) .0 in
+        let w : u ≡ part s 2 (length s) = refused-keeps m k 93 (part s 2 (length s)) z r u (g .stats) (sym eg ∙ ap (λ (x : GroupAnswer). ended x u (g .stats)) (ea ∙ e)) .0 in
         ap (splice s 2 (length s)) w ∙ ap (λ (x : List ℕ). take 2 s ++ x) (take-append-drop (length s - 2) (drop 2 s)) ∙ take-append-drop 2 s
 
     pub refused-group : (r : Refusal) → a ≡ Refused r → (out out′ : List ℕ) (n : ℕ) → Put out 0 (refusalText r) out′ n → n ≤ 256

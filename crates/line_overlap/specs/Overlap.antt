@@ -24,7 +24,7 @@ outputBy (Refused r) e = alone (refusalText r)
 abbrev pub outputOf : Ended → Output
 outputOf e = outputBy (e .answer) e
 
--- 14 before all else; then two digits and a group, its counts begun at 0
+-- 14 before all else; then two digits and a group, with the cap 93 and its counts begun at 0
 unfoldable pub overlapOf : List ℕ → Output
 overlapOf s =
-    cond (ltb 65536 (length s)) (alone (refusalText Input)) (outputOf (groupOf (numberAt s 0) (numberAt s 1) (drop 2 s) zeroed))
+    cond (ltb 65536 (length s)) (alone (refusalText Input)) (outputOf (groupOf (numberAt s 0) (numberAt s 1) 93 (drop 2 s) zeroed))

@@ -53,6 +53,7 @@ fn answer(input: &mut [u8], out: &mut [u8]) -> Written
         &mut input[2..n],
         agreement,
         disagreement,
+        strategy::FULL_CAP as u32,
         CorrectionStats::new(),
     );
     let a = grouped.answer;

@@ -8,16 +8,17 @@ use native.Mathlib.Omega.{arith}
 use lib.Dec.{eqb}
 use lib.ListN.{length}
 use Rattle.refusal.specs.declared.Refusal.{Refusal}
-use Rattle.refusal.specs.declared.Refusal.the-variants.{Count, Strategy, CountsSlice}
+use Rattle.refusal.specs.declared.Refusal.the-variants.{Count, Strategy, CountsSlice, Cap}
 use Rattle.refusal.specs.Table.{numberOf, placeOf, operationOf, codeOf}
 use Rattle.stats.specs.Counts.{full}
 use Rattle.stats.specs.Tally.{countsAt}
 use Rattle.strategy.specs.declared.Strategies.{Strategies}
 use Rattle.strategy.specs.declared.Numbered.{Numbered}
 use Rattle.strategy.specs.declared.Numbered.the-variants as Numbers
+use Rattle.strategy.specs.Cap.{capOutside}
 use Rattle.strategy.specs.Number.{numberedOf}
 use Rattle.strategy.proofs.NumberLaws.{refused-is}
-use Rattle.positions.specs.Step.{state}
+use Rattle.positions.specs.Step.{State, state}
 use Rattle.pair_judgement.specs.declared.Reason.the-variants.{Unmapped, ReferencesDiffer, NegativePosition, NoReferenceLength, NoSharedPosition}
 use Rattle.pair.specs.declared.Answer.{Answer}
 use Rattle.pair.specs.declared.Answer.the-variants as Answers
@@ -29,26 +30,35 @@ use Rattle.pair_reason.proofs.PlaceLaws.{AtPlace, answer-place}
 use Rattle.overlap_c.specs.ReasonCall.{OfRecords, Tells}
 
 -- ---- the pair call's answer, where it is of the records
-module _ (a b : List ℕ) (m k : ℕ) (c : List ℕ) where
-  of-counts : (w : Strategies) (t : Bool) → full (countsAt c 0) ≡ t → OfRecords (answerCode (cond t (outcome (Answers.Refused Count) (state a b (countsAt c 0))) (recordsOf w (state a b (countsAt c 0)) 1 2) .answer))
-      → answerCode (pairOf w (state a b (countsAt c 0)) .answer) ≡ answerCode (answerOn a b)
-  of-counts w true e o = absurd (o .counts refl)
-  of-counts w false e o = ap answerCode (sym (pair-answers w (state a b (countsAt c 0)) e))
+module _ (a b : List ℕ) (m k cap : ℕ) (c : List ℕ) where
+  abbrev s : State
+  s = state a b (countsAt c 0)
 
-  of-numbers : (x : Numbered) → numberedOf m k ≡ x → OfRecords (withNumbers a b c x .answer) → withNumbers a b c x .answer ≡ answerCode (answerOn a b)
-  unfolding pairOf
-  of-numbers (Numbers.Are w) e o = of-counts w (full (countsAt c 0)) refl o
-  of-numbers (Numbers.Refused r) e o = absurd (o .strategies (ap codeOf (refused-is m k r e)))
+  -- by the cap, and by the counts
+  Given : Strategies → Bool → Bool → Type 0
+  Given w u t = OfRecords (answerCode (cond u (outcome (Answers.Refused Cap) s) (cond t (outcome (Answers.Refused Count) s) (recordsOf w s 1 2)) .answer))
 
-  pub of-records : OfRecords (callOf a b m k c .answer) → callOf a b m k c .answer ≡ answerCode (answerOn a b)
+  of-checks : (w : Strategies) (u t : Bool) → capOutside (w .cap) ≡ u → full (countsAt c 0) ≡ t → Given w u t → answerCode (pairOf w s .answer) ≡ answerCode (answerOn a b)
+  unfolding Given
+  of-checks w true t d e o = absurd (o .cap refl)
+  of-checks w false true d e o = absurd (o .counts refl)
+  of-checks w false false d e o = ap answerCode (sym (pair-answers w s d e))
+
+  of-numbers : (x : Numbered) → numberedOf m k cap ≡ x → OfRecords (withNumbers a b c x .answer) → withNumbers a b c x .answer ≡ answerCode (answerOn a b)
+  unfolding pairOf Given
+  of-numbers (Numbers.Are w) e o = of-checks w (capOutside (w .cap)) (full (countsAt c 0)) refl refl o
+  of-numbers (Numbers.Refused r) e o =
+      ⊎-elim (λ (z : r ≡ Strategy). absurd (o .strategies (ap codeOf z))) (λ (z : (r ≡ Cap) × (capOutside cap ≡ true)). absurd (o .cap (ap codeOf (z .0)))) (refused-is m k cap r e)
+
+  pub of-records : OfRecords (callOf a b m k cap c .answer) → callOf a b m k cap c .answer ≡ answerCode (answerOn a b)
   unfolding callOf
   of-records o = go (eqb (length c) 32) o
     where
       by : Bool → Returned
-      by t = cond t (withNumbers a b c (numberedOf m k)) (returned (codeOf CountsSlice) a b c)
+      by t = cond t (withNumbers a b c (numberedOf m k cap)) (returned (codeOf CountsSlice) a b c)
 
       go : (t : Bool) → OfRecords (by t .answer) → by t .answer ≡ answerCode (answerOn a b)
-      go true p = of-numbers (numberedOf m k) refl p
+      go true p = of-numbers (numberedOf m k cap) refl p
       go false p = absurd (p .slice refl)
 
 -- ---- both numbers of one answer
@@ -86,7 +96,7 @@ both-tell Answers.Overlap h =
 both-tell (Answers.Refused r) h = refused-tells r (h r refl)
 
 -- the theorem, for every two records and whatever the pair call is given beside them
-pub reason-tells : (a b : List ℕ) (m k : ℕ) (c : List ℕ) → OfRecords (callOf a b m k c .answer) → Tells (reasonCallOf a b) (callOf a b m k c .answer)
-reason-tells a b m k c o =
-    subst (λ (n : ℕ). Tells (reasonCallOf a b) n) (sym (of-records a b m k c o))
+pub reason-tells : (a b : List ℕ) (m k cap : ℕ) (c : List ℕ) → OfRecords (callOf a b m k cap c .answer) → Tells (reasonCallOf a b) (callOf a b m k cap c .answer)
+reason-tells a b m k cap c o =
+    subst (λ (n : ℕ). Tells (reasonCallOf a b) n) (sym (of-records a b m k cap c o))
     (both-tell (answerOn a b) (λ r e. ⊎-elim (below r 1 (omega arith)) (below r 2 (omega arith)) (answer-place a b r e)))

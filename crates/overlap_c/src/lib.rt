@@ -10,19 +10,21 @@ ghost use Rattle.overlap_c.specs.FiledCall.{filedReturned, filedCallOf, 
 // How many bytes the four counts take.
 const COUNTS: usize = 32;
 
-// The pair call over two records, two strategy numbers and the four counts as 32 bytes. It answers
-// 0 for no overlap, 1 for overlap, else 1000 + 100 * place + number; it writes only for 1.
+// The pair call over two records, two strategy numbers, the cap and the four counts as 32 bytes. It answers
+// 0 for no overlap, 1 for overlap, else 1000 + 100 * place + number; it writes only for 1. The header calls it
+// `overlap_call`: its own name carries the version since which it takes these, so that no older host links it.
 #[no_mangle]
-pub extern "C" fn overlap_call(
+pub extern "C" fn overlap_call_2(
     first: &mut [u8],
     second: &mut [u8],
     agreement: u32,
     disagreement: u32,
+    cap: u32,
     counts: &mut [u8],
 ) -> u32
-    ensures { λ r. ⌜ returned r (now (first .exit)) (now (second .exit)) (now (counts .exit)) ≡ callOf (now (first .entry)) (now (second .entry)) agreement disagreement (now (counts .entry)) ⌝ }
+    ensures { λ r. ⌜ returned r (now (first .exit)) (now (second .exit)) (now (counts .exit)) ≡ callOf (now (first .entry)) (now (second .entry)) agreement disagreement cap (now (counts .entry)) ⌝ }
 {
-    pair_code::call(first, second, agreement, disagreement, counts)
+    pair_code::call(first, second, agreement, disagreement, cap, counts)
 }
 
 // Why two records do not overlap, which are only read. It answers 0 where they overlap, 1 to 5 for the

@@ -6,13 +6,14 @@ use mathlib.Core.Bool.{Bool, true, false, cond}
 use native.Mathlib.Omega.{arith}
 use lib.ListN.{length}
 use Rattle.refusal.specs.declared.Refusal.{Refusal}
-use Rattle.refusal.specs.declared.Refusal.the-variants.{Count}
+use Rattle.refusal.specs.declared.Refusal.the-variants.{Count, Cap}
 use Rattle.fields.specs.declared.Layout.{Layout}
 use Rattle.fields.specs.declared.Checked.{Checked}
 use Rattle.fields.specs.declared.Checked.the-variants.{Good, Bad}
 use Rattle.fields.specs.Check.{checkOf}
 use Rattle.stats.specs.Counts.{full}
 use Rattle.strategy.specs.declared.Strategies.{Strategies}
+use Rattle.strategy.specs.Cap.{capOutside}
 use Rattle.cigar.specs.declared.Extent.{Extent}
 use Rattle.positions.specs.Step.{State, job}
 use Rattle.pair_merge.specs.Shared.{shared}
@@ -24,7 +25,7 @@ use Rattle.pair_judgement.specs.Judgement.{judgedOf}
 use Rattle.pair_judgement.specs.Reason.{lengthless, unsharedOf}
 use Rattle.pair_judgement.specs.Ready.{Ready, TreatedTo}
 use Rattle.pair_judgement.proofs.TreatLaws.{Known, both-known, none-reached, nothing-shared}
-use Rattle.pair.specs.Pair.{outcome, answerOf, onReference, onJudged, refusedAnswer, recordsOf, pairOf}
+use Rattle.pair.specs.Pair.{outcome, answerOf, onReference, onJudged, refusedAnswer, recordsOf, cappedOf, pairOf}
 
 -- ---- the answer by the number of shared positions
 pub none-met : (l : List (ℕ × ℕ)) (n : ℕ) → n ≡ length l → n ≡ 0 → Answers.NoOverlap NoSharedPosition ≡ answerOf l
@@ -68,24 +69,43 @@ module _ (w : Strategies) (s : State) (y z : Layout) (p q : Extent) (u : State) 
 
 -- ---- the order of judgement
 module _ (w : Strategies) (s : State) where
-  pub call-full : full (s .stats) ≡ true → outcome (Answers.Refused Count) s ≡ pairOf w s
+  -- ---- the records: the first is refused, the second, or both are sound and judged
+  records-first : (k : Checked) (r : Refusal) → k ≡ checkOf (s .first) 1 → k ≡ Bad r → outcome (refusedAnswer k) s ≡ recordsOf w s 1 2
+  unfolding recordsOf
+  records-first k r e f = rw (← e, f)
+
+  records-second : (y : Layout) → checkOf (s .first) 1 ≡ Good y → (k : Checked) (r : Refusal) → k ≡ checkOf (s .second) 2 → k ≡ Bad r → outcome (refusedAnswer k) s ≡ recordsOf w s 1 2
+  unfolding recordsOf
+  records-second y good₁ k r e f = rw (good₁, ← e, f)
+
+  pub records-judged : (y z : Layout) (j : Judged) → checkOf (s .first) 1 ≡ Good y → checkOf (s .second) 2 ≡ Good z → judgedOf y z (s .first) (s .second) 1 2 ≡ j
+      → onJudged w y z s j ≡ recordsOf w s 1 2
+  unfolding recordsOf
+  records-judged y z j good₁ good₂ e = rw (good₁, good₂, e)
+
+  -- ---- the cap
+  pub call-cap : capOutside (w .cap) ≡ true → outcome (Answers.Refused Cap) s ≡ pairOf w s
   unfolding pairOf
+  call-cap e = rw e
+
+  pub call-capped : capOutside (w .cap) ≡ false → cappedOf w s ≡ pairOf w s
+  unfolding pairOf
+  call-capped e = rw e
+
+  -- ---- the statistics
+  pub call-full : full (s .stats) ≡ true → outcome (Answers.Refused Count) s ≡ cappedOf w s
   call-full e = rw e
 
   module _ (room : full (s .stats) ≡ false) where
-    records : recordsOf w s 1 2 ≡ pairOf w s
-    unfolding pairOf
-    records = rw room
+    pub call-records : recordsOf w s 1 2 ≡ cappedOf w s
+    call-records = rw room
 
-    pub call-first : (k : Checked) (r : Refusal) → k ≡ checkOf (s .first) 1 → k ≡ Bad r → outcome (refusedAnswer k) s ≡ pairOf w s
-    unfolding recordsOf
-    call-first k r e f = ap (λ (x : Checked). outcome (refusedAnswer x) s) f ∙ (rw (sym e ∙ f) at records)
+    pub call-first : (k : Checked) (r : Refusal) → k ≡ checkOf (s .first) 1 → k ≡ Bad r → outcome (refusedAnswer k) s ≡ cappedOf w s
+    call-first k r e f = records-first k r e f ∙ call-records
 
     module _ (y : Layout) (good₁ : checkOf (s .first) 1 ≡ Good y) where
-      pub call-second : (k : Checked) (r : Refusal) → k ≡ checkOf (s .second) 2 → k ≡ Bad r → outcome (refusedAnswer k) s ≡ pairOf w s
-      unfolding recordsOf
-      call-second k r e f = ap (λ (x : Checked). outcome (refusedAnswer x) s) f ∙ (rw (good₁, sym e ∙ f) at records)
+      pub call-second : (k : Checked) (r : Refusal) → k ≡ checkOf (s .second) 2 → k ≡ Bad r → outcome (refusedAnswer k) s ≡ cappedOf w s
+      call-second k r e f = records-second y good₁ k r e f ∙ call-records
 
-      pub call-judged : (z : Layout) (j j′ : Judged) → checkOf (s .second) 2 ≡ Good z → j ≡ judgedOf y z (s .first) (s .second) 1 2 → j ≡ j′ → onJudged w y z s j′ ≡ pairOf w s
-      unfolding recordsOf
-      call-judged z j j′ good₂ e f = ap (onJudged w y z s) (sym f ∙ e) ∙ (rw (good₁, good₂) at records)
+      pub call-judged : (z : Layout) (j j′ : Judged) → checkOf (s .second) 2 ≡ Good z → j ≡ judgedOf y z (s .first) (s .second) 1 2 → j ≡ j′ → onJudged w y z s j′ ≡ cappedOf w s
+      call-judged z j j′ good₂ e f = records-judged y z j′ good₁ good₂ (sym e ∙ f) ∙ call-records

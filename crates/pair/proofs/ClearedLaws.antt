@@ -7,7 +7,6 @@ use lib.ListN.{length}
 use Rattle.fields.specs.declared.Layout.{Layout}
 use Rattle.fields.specs.Layout.{layoutOf}
 use Rattle.fields.proofs.CheckLaws.{sound-good}
-use Rattle.stats.specs.Counts.{full}
 use Rattle.strategy.specs.declared.Strategies.{Strategies}
 use Rattle.positions.specs.Step.{State, job}
 use Rattle.pair_merge.specs.Shared.{shared}
@@ -25,8 +24,8 @@ use Rattle.pair_judgement.proofs.ClearedLaws.{starts, Covered, cleared-apart, c
 use Rattle.pair_judgement.proofs.TreatLaws.{none-reached, nothing-shared}
 use Rattle.pair.specs.declared.Answer.{Answer}
 use Rattle.pair.specs.declared.Answer.the-variants as Answers
-use Rattle.pair.specs.Pair.{outcome, answerOf, onReference, onJudged, pairOf}
-use Rattle.pair.proofs.CallLaws.{call-judged}
+use Rattle.pair.specs.Pair.{outcome, answerOf, onReference, onJudged, recordsOf}
+use Rattle.pair.proofs.CallLaws.{records-judged}
 
 -- the answer where so many positions are shared, with a reason for none
 abbrev pub metAnswer : Reason → ℕ → Answer
@@ -37,22 +36,22 @@ met-answer : (l : List (ℕ × ℕ)) → metAnswer NoSharedPosition (length l) �
 met-answer [] = refl
 met-answer (e ∷ l) = refl
 
-module _ (w : Strategies) (s : State) (room : full (s .stats) ≡ false) (k : Cleared (s .first) (s .second)) where
+module _ (w : Strategies) (s : State) (k : Cleared (s .first) (s .second)) where
   abbrev y : Layout
   y = layoutOf (s .first)
 
   abbrev z : Layout
   z = layoutOf (s .second)
 
-  judged-as : (j : Judged) → judgedOf y z (s .first) (s .second) 1 2 ≡ j → onJudged w y z s j ≡ pairOf w s
-  judged-as j e = call-judged w s room y (sound-good _ _ (k .first) 1) z _ j (sound-good _ _ (k .second) 2) refl e
+  judged-as : (j : Judged) → judgedOf y z (s .first) (s .second) 1 2 ≡ j → onJudged w y z s j ≡ recordsOf w s 1 2
+  judged-as j e = records-judged w s y z j (sound-good _ _ (k .first) 1) (sound-good _ _ (k .second) 2) e
 
   -- n positions are met, and u is what is there after it
-  pub cleared-called : (u : State) (n : ℕ) → TreatedAt (whereOf (s .first) (s .second)) w s u n → (r : Reason) × (outcome (metAnswer r n) u ≡ pairOf w s)
+  pub cleared-called : (u : State) (n : ℕ) → TreatedAt (whereOf (s .first) (s .second)) w s u n → (r : Reason) × (outcome (metAnswer r n) u ≡ recordsOf w s 1 2)
   cleared-called u n t = go (whereOf (s .first) (s .second)) refl t
     where
       on : (p q : ℕ) (c : Covered (s .first) (s .second) p q) (h : TreatedTo (job w y z) (record { 0 = p + 1 }) (record { 0 = q + 1 }) s u n) (b : Bool) → lengthless (c .extent₁) (c .extent₂) ≡ b
-          → onReference w y z s (c .extent₁ .start) (c .extent₂ .start) b ≡ pairOf w s → (x : Reason) × (outcome (metAnswer x n) u ≡ pairOf w s)
+          → onReference w y z s (c .extent₁ .start) (c .extent₂ .start) b ≡ recordsOf w s 1 2 → (x : Reason) × (outcome (metAnswer x n) u ≡ recordsOf w s 1 2)
       on p q c h true b j =
           let l = none-reached y z (record { 0 = p + 1 }) (record { 0 = q + 1 }) (s .first) (s .second) (c .extent₁) (c .extent₂) (c .span₁) (c .span₂) b in
           let e : u ≡ s = h .after ∙ sym (nothing-shared (job w y z) (record { 0 = p + 1 }) (record { 0 = q + 1 }) s l) in
@@ -63,7 +62,7 @@ module _ (w : Strategies) (s : State) (room : full (s .stats) ≡ false) (k : Cl
             ∙ (rw (starts (c .extent₁ .start) p (c .span₁ .first), starts (c .extent₂ .start) q (c .span₂ .first)) at j),
       )
 
-      go : (x : Where) → whereOf (s .first) (s .second) ≡ x → TreatedAt x w s u n → (r : Reason) × (outcome (metAnswer r n) u ≡ pairOf w s)
+      go : (x : Where) → whereOf (s .first) (s .second) ≡ x → TreatedAt x w s u n → (r : Reason) × (outcome (metAnswer r n) u ≡ recordsOf w s 1 2)
       go (Apart r) e h = (r, ap₂ (λ (m : ℕ) (v : State). outcome (metAnswer r m) v) (h .1) (h .0) ∙ judged-as (Judge.Apart r) (cleared-apart _ _ r e 1 2))
       go (On p q) e h =
           let c = cleared-on (s .first) (s .second) p q k e in

@@ -7,7 +7,7 @@ use mathlib.Core.Logic.{_⊎_, inl, inr, ⊎-elim}
 use native.Mathlib.Omega.{arith}
 use lib.IntN.{ℤ, pos, negsuc}
 use Rattle.refusal.specs.declared.Refusal.{Refusal}
-use Rattle.refusal.specs.declared.Refusal.the-variants.{Count}
+use Rattle.refusal.specs.declared.Refusal.the-variants.{Count, Cap}
 use Rattle.fields.specs.declared.Layout.{Layout}
 use Rattle.fields.specs.declared.RefPos.{RefPos}
 use Rattle.fields.specs.declared.ReadOffset.{ReadOffset}
@@ -22,6 +22,7 @@ use Rattle.fields.proofs.CheckLaws.{good-sound}
 use Rattle.fields.proofs.PositionLaws.{same-id-equal, equal-same-id}
 use Rattle.stats.specs.Counts.{full}
 use Rattle.strategy.specs.declared.Strategies.{Strategies}
+use Rattle.strategy.specs.Cap.{capOutside}
 use Rattle.cigar.specs.declared.Extent.{Extent}
 use Rattle.cigar.specs.declared.Span.{Span}
 use Rattle.cigar.specs.declared.Span.the-variants as Spans
@@ -78,11 +79,12 @@ quiet-good (Bad r) s f h = inl refl
 
 quiet : (w : Strategies) (s : State) → Quiet s (pairOf w s)
 unfolding pairOf recordsOf Quiet
-quiet w s = go (full (s .stats))
+quiet w s = go (capOutside (w .cap)) (full (s .stats))
   where
-    go : (t : Bool) → Quiet s (cond t (outcome (Answers.Refused Count) s) (recordsOf w s 1 2))
-    go true = inl refl
-    go false = quiet-good (checkOf (s .first) 1) s _ (λ y. quiet-good (checkOf (s .second) 2) s _ (λ z. quiet-judged w y z s (judgedOf y z (s .first) (s .second) 1 2)))
+    go : (c t : Bool) → Quiet s (cond c (outcome (Answers.Refused Cap) s) (cond t (outcome (Answers.Refused Count) s) (recordsOf w s 1 2)))
+    go true t = inl refl
+    go false true = inl refl
+    go false false = quiet-good (checkOf (s .first) 1) s _ (λ y. quiet-good (checkOf (s .second) 2) s _ (λ z. quiet-judged w y z s (judgedOf y z (s .first) (s .second) 1 2)))
 
 pub refused-keeps : (w : Strategies) (s u : State) (r : Refusal) → pairOf w s ≡ outcome (Answers.Refused r) u → u ≡ s
 unfolding Quiet
@@ -111,7 +113,7 @@ good-layout s p y e =
 
 pub passed : (w : Strategies) (s : State) (o : Outcome) → pairOf w s ≡ o → NotRefused o → Passed w s o
 unfolding pairOf recordsOf
-passed w s o e n = on-full (full (s .stats)) e
+passed w s o e n = on-cap (capOutside (w .cap)) e
   where
     rest : (y z : Layout) → Outcome
     rest y z = onJudged w y z s (judgedOf y z (s .first) (s .second) 1 2)
@@ -133,6 +135,10 @@ passed w s o e n = on-full (full (s .stats)) e
     on-full : (t : Bool) → cond t (outcome (Answers.Refused Count) s) (recordsOf w s 1 2) ≡ o → Passed w s o
     on-full true h = absurd (n Count (sym (answer-of _ _ h)))
     on-full false h = on-records (checkOf (s .first) 1) refl h
+
+    on-cap : (t : Bool) → cond t (outcome (Answers.Refused Cap) s) (cond (full (s .stats)) (outcome (Answers.Refused Count) s) (recordsOf w s 1 2)) ≡ o → Passed w s o
+    on-cap true h = absurd (n Cap (sym (answer-of _ _ h)))
+    on-cap false h = on-full (full (s .stats)) h
 
 -- ---- aligned records are refused by their operations or placed, and never apart for what their headers say
 placed-at : (z : ℤ) (n : ℕ) → z ≡ pos n → positionOf z ≡ At n

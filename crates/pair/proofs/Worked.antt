@@ -8,4 +8,4 @@ use Rattle.pair.proofs.MeetLaws.{meetFrom, meet-at}
 
 pub worked : Examples
 unfolding Examples treated readSum refSum offAt meetFrom
-worked = (refl, refl, refl, refl, refl, refl, refl, refl, refl, refl, meet-at _ _ _ _, meet-at _ _ _ _, meet-at _ _ _ _, meet-at _ _ _ _, meet-at _ _ _ _)
+worked = (refl, refl, refl, refl, refl, refl, refl, refl, refl, refl, refl, refl, refl, refl, refl, refl, meet-at _ _ _ _, meet-at _ _ _ _, meet-at _ _ _ _, meet-at _ _ _ _, meet-at _ _ _ _)

@@ -21,10 +21,17 @@ abbrev pub baseT : ℕ
 baseT = code "T"
 
 abbrev pub consensus : Strategies
-consensus = record { agreement = Agree.Consensus; disagreement = Differ.Consensus }
+consensus = record { agreement = Agree.Consensus; disagreement = Differ.Consensus; cap = 93 }
+
+-- Consensus in both, on a scale that stops at 40
+abbrev pub upTo40 : Strategies
+upTo40 = record { agreement = Agree.Consensus; disagreement = Differ.Consensus; cap = 40 }
+
+abbrev pub maxUpTo40 : Strategies
+maxUpTo40 = record { agreement = Agree.MaxQual; disagreement = Differ.MaskLowerQual; cap = 40 }
 
 abbrev pub maskLower : Strategies
-maskLower = record { agreement = Agree.Consensus; disagreement = Differ.MaskLowerQual }
+maskLower = record { agreement = Agree.Consensus; disagreement = Differ.MaskLowerQual; cap = 93 }
 
 -- operations of a length
 abbrev pub opM : ℕ → ℕ
@@ -63,6 +70,13 @@ Examples =
     × (treated consensus baseT 255 baseA 30 ≡ out baseT 225 baseT 225 (counts 1 0 1 2))
     -- MaskLowerQual
     × (treated maskLower baseT 10 baseA 30 ≡ out N 2 baseA 30 (counts 1 0 1 1))
+    -- the cap 40: agreement under Consensus alone comes down to it
+    × (treated upTo40 baseA 30 baseA 9 ≡ out baseA 39 baseA 39 (counts 1 1 0 1))
+    × (treated upTo40 baseA 30 baseA 20 ≡ out baseA 40 baseA 40 (counts 1 1 0 1))
+    × (treated upTo40 baseA 255 baseA 93 ≡ out baseA 40 baseA 40 (counts 1 1 0 1))
+    × (treated upTo40 baseT 255 baseA 30 ≡ out baseT 225 baseT 225 (counts 1 0 1 2))
+    × (treated maxUpTo40 baseA 60 baseA 50 ≡ out baseA 60 baseA 60 (counts 1 1 0 1))
+    × (treated maxUpTo40 baseT 10 baseA 60 ≡ out N 2 baseA 60 (counts 1 0 1 1))
     -- places
     × MeetAt (opS 2 ∷ opM 3 ∷ opD 1 ∷ opM 2 ∷ []) (at 10) (opM 2 ∷ opI 1 ∷ opM 3 ∷ []) (at 12) ((4, 0, 12) ∷ (5, 3, 14) ∷ (6, 4, 15) ∷ [])
     × MeetAt (opM 4 ∷ []) (at 10) (opM 1 ∷ []) (at 13) ((3, 0, 13) ∷ [])

@@ -2,7 +2,7 @@
 use Prim.Native.Nat.{ℕ}
 use mathlib.Core.List.{List, [], _∷_}
 use mathlib.Core.Bool.{Bool, cond}
-use Rattle.refusal.specs.declared.Refusal.the-variants.{Count}
+use Rattle.refusal.specs.declared.Refusal.the-variants.{Count, Cap}
 use Rattle.refusal.specs.Table.{codeOf}
 use Rattle.fields.specs.declared.Layout.{Layout}
 use Rattle.fields.specs.declared.RefPos.{RefPos}
@@ -11,6 +11,7 @@ use Rattle.fields.specs.declared.Checked.the-variants.{Good, Bad}
 use Rattle.fields.specs.Check.{checkOf}
 use Rattle.stats.specs.Counts.{full}
 use Rattle.strategy.specs.declared.Strategies.{Strategies}
+use Rattle.strategy.specs.Cap.{capOutside}
 use Rattle.positions.specs.Step.{State, job}
 use Rattle.pair_merge.specs.Shared.{shared, merged}
 use Rattle.pair_judgement.specs.declared.Reason.the-variants.{NoReferenceLength, NoSharedPosition}
@@ -56,9 +57,13 @@ onGood (Bad r) s rest = outcome (Answers.Refused r) s
 unfoldable pub recordsOf : Strategies → State → ℕ → ℕ → Outcome
 recordsOf w s i j = onGood (checkOf (s .first) i) s (λ y. onGood (checkOf (s .second) j) s (λ z. onJudged w y z s (judgedOf y z (s .first) (s .second) i j)))
 
--- the whole call: step 2 is the statistics
+-- step 2, the statistics; then the records
+abbrev pub cappedOf : Strategies → State → Outcome
+cappedOf w s = cond (full (s .stats)) (outcome (Answers.Refused Count) s) (recordsOf w s 1 2)
+
+-- the whole call: before them the cap
 unfoldable pub pairOf : Strategies → State → Outcome
-pairOf w s = cond (full (s .stats)) (outcome (Answers.Refused Count) s) (recordsOf w s 1 2)
+pairOf w s = cond (capOutside (w .cap)) (outcome (Answers.Refused Cap) s) (cappedOf w s)
 
 -- what the exported call answers: 0 whatever the reason
 abbrev pub answerCode : Answer → ℕ

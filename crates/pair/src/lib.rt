@@ -10,7 +10,7 @@ ghost use mathlib.Core.Path.{_≡_};
 ghost use Rattle.stats.specs.Room.{Room};
 ghost use Rattle.positions.specs.Step.{state};
 ghost use Rattle.pair_judgement.specs.Ready.{Ready};
-ghost use Rattle.pair.specs.Pair.{onJudged, refusedAnswer, outcome, pairOf, answerCode};
+ghost use Rattle.pair.specs.Pair.{onJudged, refusedAnswer, outcome, cappedOf, pairOf, answerCode};
 
 // What a pair call answers: no overlap, for a reason; overlap; or a refusal. A refusal and "no overlap"
 // change nothing.
@@ -75,10 +75,9 @@ fn call_both(
     }
 }
 
-// Corrects two records where they stand, and adds to the counts: the order of judgement from the
-// statistics on. Refused, or without an overlap, both records and the counts are as they came.
-pub fn call(first: &mut [u8], second: &mut [u8], w: Strategies, stats: CorrectionStats) -> Called
-    ensures { λ r. ⌜ outcome (r .answer) (state (now (first .exit)) (now (second .exit)) (r .stats)) ≡ pairOf w (state (now (first .entry)) (now (second .entry)) stats) ⌝ }
+// The call with a cap that is one: the order of judgement from the statistics on.
+fn call_capped(first: &mut [u8], second: &mut [u8], w: Strategies, stats: CorrectionStats) -> Called
+    ensures { λ r. ⌜ outcome (r .answer) (state (now (first .exit)) (now (second .exit)) (r .stats)) ≡ cappedOf w (state (now (first .entry)) (now (second .entry)) stats) ⌝ }
 {
     if stats.full() {
         return Called {
@@ -122,4 +121,19 @@ pub fn call(first: &mut [u8], second: &mut [u8], w: Strategies, stats: Correctio
             call_both(w, first, second, a, b, stats)
         }
     }
+}
+
+// Corrects two records where they stand, and adds to the counts: the cap first, and then the order of
+// judgement. Refused, or without an overlap, both records and the counts are as they came. The rest is a
+// function of its own: in one with the test the compiler would take what follows for seldom run.
+pub fn call(first: &mut [u8], second: &mut [u8], w: Strategies, stats: CorrectionStats) -> Called
+    ensures { λ r. ⌜ outcome (r .answer) (state (now (first .exit)) (now (second .exit)) (r .stats)) ≡ pairOf w (state (now (first .entry)) (now (second .entry)) stats) ⌝ }
+{
+    if w.cap_outside() {
+        return Called {
+            answer: Answer::Refused(Refusal::Cap),
+            stats,
+        };
+    }
+    call_capped(first, second, w, stats)
 }

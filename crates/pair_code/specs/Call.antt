@@ -36,10 +36,15 @@ countsAfter (Answers.Refused r) c g = c
 abbrev pub called : List ℕ → Outcome → Returned
 called c o = returned (answerCode (o .answer)) (o .after .first) (o .after .second) (countsAfter (o .answer) c (o .after .stats))
 
+-- the answer for numbers that are refused
+abbrev pub numberedCode : Numbered → ℕ
+numberedCode (Numbers.Are w) = 1
+numberedCode (Numbers.Refused r) = codeOf r
+
 abbrev pub withNumbers : List ℕ → List ℕ → List ℕ → Numbered → Returned
 withNumbers a b c (Numbers.Are w) = called c (pairOf w (state a b (countsAt c 0)))
 withNumbers a b c (Numbers.Refused r) = returned (codeOf r) a b c
 
--- the counts slice, then the strategy numbers, then the pair call
-unfoldable pub callOf : List ℕ → List ℕ → ℕ → ℕ → List ℕ → Returned
-callOf a b m k c = cond (eqb (length c) 32) (withNumbers a b c (numberedOf m k)) (returned (codeOf CountsSlice) a b c)
+-- the counts slice, then the strategy numbers and the cap, then the pair call
+unfoldable pub callOf : List ℕ → List ℕ → ℕ → ℕ → ℕ → List ℕ → Returned
+callOf a b m k cap c = cond (eqb (length c) 32) (withNumbers a b c (numberedOf m k cap)) (returned (codeOf CountsSlice) a b c)

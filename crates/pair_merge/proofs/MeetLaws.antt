@@ -17,7 +17,7 @@ use Rattle.pair_merge.specs.Shared.{Walked}
 use Rattle.pair_merge.proofs.MergeLaws.{Merging, cig₁, cig₂, merging-start}
 
 abbrev pub any : Strategies
-any = record { agreement = Agree.Consensus; disagreement = Differ.Consensus }
+any = record { agreement = Agree.Consensus; disagreement = Differ.Consensus; cap = 93 }
 
 abbrev pub unread : List ℕ → List ℕ → State
 unread f g = state f g zeroed

@@ -7,7 +7,7 @@ use mathlib.Core.Bool.{Bool, true, false, cond, _||_}
 use native.Mathlib.Omega.{arith}
 use lib.Dec.{ltb}
 use lib.ListN.{length, take, drop}
-use Rattle.refusal.specs.declared.Refusal.the-variants.{RecordShort, RecordLong, NameAndOperations, BasesAndQualities, Count}
+use Rattle.refusal.specs.declared.Refusal.the-variants.{RecordShort, RecordLong, NameAndOperations, BasesAndQualities, Count, Cap}
 use Rattle.fields.specs.declared.Layout.{Layout}
 use Rattle.fields.specs.declared.RefPos.{RefPos}
 use Rattle.fields.specs.declared.Checked.{Checked}
@@ -20,6 +20,7 @@ use Rattle.fields.specs.Check.{checkOf}
 use Rattle.fields.proofs.CheckLaws.{le-take, good-sound}
 use Rattle.stats.specs.Counts.{full}
 use Rattle.strategy.specs.declared.Strategies.{Strategies}
+use Rattle.strategy.specs.Cap.{capOutside}
 use Rattle.cigar.specs.declared.Span.{Span}
 use Rattle.cigar.specs.Operation.{refSum, opsOf, opsIn}
 use Rattle.cigar.specs.Found.{baseOn}
@@ -169,7 +170,7 @@ module _ (w : Strategies) (s : State) where
 
   call-fronts : Fronts s (pairOf w s .after)
   unfolding pairOf recordsOf
-  call-fronts = counts (full (s .stats))
+  call-fronts = checks (capOutside (w .cap)) (full (s .stats))
     where
       two : (k : Checked) → checkOf (s .second) 2 ≡ k → Fronts s (onGood k s (λ x. onJudged w y x s (judgedOf y x (s .first) (s .second) 1 2)) .after)
       two (Good x) e = rw (good-sound (s .second) 2 x e .layout) (judged-fronts (judgedOf y z (s .first) (s .second) 1 2))
@@ -179,9 +180,10 @@ module _ (w : Strategies) (s : State) where
       one (Good v) e = rw (good-sound (s .first) 1 v e .layout) (two (checkOf (s .second) 2) refl)
       one (Bad r) e = unchanged s
 
-      counts : (t : Bool) → Fronts s (cond t (outcome (Answers.Refused Count) s) (recordsOf w s 1 2) .after)
-      counts true = unchanged s
-      counts false = one (checkOf (s .first) 1) refl
+      checks : (c t : Bool) → Fronts s (cond c (outcome (Answers.Refused Cap) s) (cond t (outcome (Answers.Refused Count) s) (recordsOf w s 1 2)) .after)
+      checks true t = unchanged s
+      checks false true = unchanged s
+      checks false false = one (checkOf (s .first) 1) refl
 
   -- the reason that is asked of what the call leaves is the one that was asked of what it was given
   pub reason-again : reasonCallOf (pairOf w s .after .first) (pairOf w s .after .second) ≡ reasonCallOf (s .first) (s .second)

@@ -18,6 +18,7 @@ use Rattle.cigar.specs.declared.Span.{Span}
 use Rattle.cigar.specs.declared.Span.the-variants as Spans
 use Rattle.stats.specs.Counts.{full}
 use Rattle.strategy.specs.declared.Strategies.{Strategies}
+use Rattle.strategy.specs.Cap.{capOutside}
 use Rattle.positions.specs.Step.{State}
 use Rattle.pair_merge.specs.Shared.{shared}
 use Rattle.pair_judgement.specs.declared.Reason.{Reason}
@@ -137,6 +138,6 @@ module _ (w : Strategies) (s : State) where
       one (Good y) = two y (checkOf (s .second) 2)
       one (Bad r) = refl
 
-  pub pair-answers : full (s .stats) ≡ false → answerOn (s .first) (s .second) ≡ pairOf w s .answer
+  pub pair-answers : capOutside (w .cap) ≡ false → full (s .stats) ≡ false → answerOn (s .first) (s .second) ≡ pairOf w s .answer
   unfolding pairOf
-  pair-answers room = rw room records-answer
+  pair-answers capped room = rw (capped, room) records-answer

@@ -83,7 +83,7 @@ module _ (w : Strategies) (y z : Layout) where
           }
 
       pub adding-agreed : (r : Qualities) (v : ℕ) → baseAt a y (i + t) ≡ baseAt b z (j + t) → (baseAt a y (i + t) ≡ N → ⊥)
-          → r ≡ agreedOf (w .agreement) (qualityAt a y (i + t)) (qualityAt b z (j + t)) → v ≡ changedOf (qualityAt a y (i + t)) (qualityAt b z (j + t)) (r .qual1) (r .qual2)
+          → r ≡ agreedOf w (qualityAt a y (i + t)) (qualityAt b z (j + t)) → v ≡ changedOf (qualityAt a y (i + t)) (qualityAt b z (j + t)) (r .qual1) (r .qual2)
           → Adding i j n s₀ (t + 1) (set a (y .qualities + (i + t)) (r .qual1)) (set b (z .qualities + (j + t)) (r .qual2)) h (e + 1) (c + v)
       adding-agreed r v eb nb er ev =
           let p₁ = qualityAt a y (i + t) in

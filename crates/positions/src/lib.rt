@@ -57,7 +57,6 @@ pub fn treat_row(
     requires { ⌜ Lies y (length (now first)) × Lies z (length (now second)) × (i .0 + n ≤ y .count) × (j .0 + n ≤ z .count) × Room g (2 * n) ⌝ }
     ensures { λ r. ⌜ state (now (first .exit)) (now (second .exit)) r ≡ steps (job w y z) (row (i .0) (j .0) n) (state (now (first .entry)) (now (second .entry)) g) ⌝ }
 {
-    let m = w.agreement;
     let yq = y.qualities;
     let zq = z.qualities;
     let mut t = 0;
@@ -72,7 +71,7 @@ pub fn treat_row(
         if a.base == bases::N {
             t += 1;
         } else if a.base == b.base {
-            let r = lane::agreed(m, a.quality, b.quality);
+            let r = lane::agreed(w, a.quality, b.quality);
             first[yq + p.0] = r.qual1;
             second[zq + q.0] = r.qual2;
             agreeing += 1;

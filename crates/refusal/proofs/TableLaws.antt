@@ -2,7 +2,7 @@
 use mathlib.Core.Path.{_≡_}
 use native.Mathlib.Omega.{arith}
 use Rattle.refusal.specs.declared.Refusal.{Refusal}
-use Rattle.refusal.specs.declared.Refusal.the-variants.{RecordShort, RecordLong, NameAndOperations, BasesAndQualities, OperationCode, ReadTotal, ReferenceEnd, Count, Strategy, Frame, TooManyRecords, Sum, Input, CountsSlice, OutputShort, TrailerMissing, TrailerField}
+use Rattle.refusal.specs.declared.Refusal.the-variants.{RecordShort, RecordLong, NameAndOperations, BasesAndQualities, OperationCode, ReadTotal, ReferenceEnd, Count, Strategy, Frame, TooManyRecords, Sum, Input, CountsSlice, OutputShort, TrailerMissing, TrailerField, Cap}
 use Rattle.refusal.specs.Table.{numberOf}
 
 -- 6 is withdrawn: no refusal has it
@@ -24,3 +24,4 @@ six-withdrawn CountsSlice e = omega arith
 six-withdrawn OutputShort e = omega arith
 six-withdrawn TrailerMissing e = omega arith
 six-withdrawn TrailerField e = omega arith
+six-withdrawn Cap e = omega arith

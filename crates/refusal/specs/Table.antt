@@ -2,7 +2,7 @@
 use Prim.Native.Nat.{ℕ, _+_, _*_}
 use Rattle.refusal.specs.declared.Refusal.{Refusal}
 use Rattle.refusal.specs.declared.Row.{Row}
-use Rattle.refusal.specs.declared.Refusal.the-variants.{RecordShort, RecordLong, NameAndOperations, BasesAndQualities, OperationCode, ReadTotal, ReferenceEnd, Count, Strategy, Frame, TooManyRecords, Sum, Input, CountsSlice, OutputShort, TrailerMissing, TrailerField}
+use Rattle.refusal.specs.declared.Refusal.the-variants.{RecordShort, RecordLong, NameAndOperations, BasesAndQualities, OperationCode, ReadTotal, ReferenceEnd, Count, Strategy, Frame, TooManyRecords, Sum, Input, CountsSlice, OutputShort, TrailerMissing, TrailerField, Cap}
 
 -- the row of a refusal that names no operation
 abbrev pub plain : ℕ → ℕ → Row
@@ -26,6 +26,7 @@ rowOf CountsSlice = plain 15 0
 rowOf OutputShort = plain 19 0
 rowOf TrailerMissing = plain 20 0
 rowOf TrailerField = plain 21 0
+rowOf Cap = plain 22 0
 
 abbrev pub numberOf : Refusal → ℕ
 numberOf r = rowOf r .number

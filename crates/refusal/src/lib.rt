@@ -25,6 +25,7 @@ pub enum Refusal {
     OutputShort,
     TrailerMissing,
     TrailerField,
+    Cap,
 }
 
 // A row of the table: a refusal's number; where it is given: its place, which is the record at fault,
@@ -82,6 +83,7 @@ impl Refusal {
             Refusal::OutputShort => Row::plain(19, 0),
             Refusal::TrailerMissing => Row::plain(20, 0),
             Refusal::TrailerField => Row::plain(21, 0),
+            Refusal::Cap => Row::plain(22, 0),
         }
     }
 

@@ -79,11 +79,12 @@ fn call(head: &[u8], n: Sizes, first: &mut [u8], second: &mut [u8], counts: &mut
     if counts.len() < n3 {
         return 0;
     }
-    overlap_c::overlap_call(
+    overlap_c::overlap_call_2(
         &mut first[0..n1],
         &mut second[0..n2],
         number(head, 0),
         number(head, 4),
+        strategy::FULL_CAP as u32,
         &mut counts[0..n3],
     )
 }

@@ -35,17 +35,16 @@ alike-set y z i j k p q x v m n a b hp hq hi hj e f =
 module _ (w : Strategies) (y z : Layout) (i j n : ℕ) (s₀ : State) (both : Both y z s₀) (hi : i + n ≤ y .count) (hj : j + n ≤ z .count) where
   -- k positions that agree, their qualities treated one after the other
   adding-run : (k t : ℕ) (a b : List ℕ) (h : CorrectionStats) (e c : ℕ) (r : Stretched) → t + k ≤ n → Alike a b y z (i + t) (j + t) k → Adding w y z i j n s₀ t a b h e c
-      → r ≡ agreedRow (w .agreement) (y .qualities + (i + t)) (z .qualities + (j + t)) k (stretched a b c) → Adding w y z i j n s₀ (t + k) (r .first) (r .second) h (e + k) (r .corrected)
+      → r ≡ agreedRow w (y .qualities + (i + t)) (z .qualities + (j + t)) k (stretched a b c) → Adding w y z i j n s₀ (t + k) (r .first) (r .second) h (e + k) (r .corrected)
   unfolding agreedRow
   adding-run zero t a b h e c r l f inv x =
       let d : t + 0 ≡ t = omega arith in
       let g : e + 0 ≡ e = omega arith in
       rw (d, g, x) inv
   adding-run (suc k) t a b h e c r l f inv x =
-      let m = w .agreement in
       let p = y .qualities + (i + t) in
       let q = z .qualities + (j + t) in
-      let o = agreedOf m (getD a p 0) (getD b q 0) in
+      let o = agreedOf w (getD a p 0) (getD b q 0) in
       let v = changedOf (getD a p 0) (getD b q 0) (o .qual1) (o .qual2) in
       let i0 : i + t + 0 ≡ i + t = omega arith in
       let j0 : j + t + 0 ≡ j + t = omega arith in
@@ -62,8 +61,8 @@ module _ (w : Strategies) (y z : Layout) (i j n : ℕ) (s₀ : State) (both : Bo
 
   -- with their count begun at 0
   pub adding-stretch : (k t : ℕ) (a b : List ℕ) (h : CorrectionStats) (e c : ℕ) (a′ b′ : List ℕ) (x : ℕ) → t + k ≤ n → Alike a b y z (i + t) (j + t) k → Adding w y z i j n s₀ t a b h e c
-      → stretched a′ b′ x ≡ agreedRow (w .agreement) (y .qualities + (i + t)) (z .qualities + (j + t)) k (stretched a b 0) → Adding w y z i j n s₀ (t + k) a′ b′ h (e + k) (c + x)
+      → stretched a′ b′ x ≡ agreedRow w (y .qualities + (i + t)) (z .qualities + (j + t)) k (stretched a b 0) → Adding w y z i j n s₀ (t + k) a′ b′ h (e + k) (c + x)
   adding-stretch k t a b h e c a′ b′ x l f inv r =
       let c0 : c + 0 ≡ c = omega arith in
       adding-run k t a b h e c (stretched a′ b′ (c + x)) l f inv
-      (ap (further c) r ∙ (rw c0 at (sym (row-count (w .agreement) (y .qualities + (i + t)) (z .qualities + (j + t)) k c 0 a b))))
+      (ap (further c) r ∙ (rw c0 at (sym (row-count w (y .qualities + (i + t)) (z .qualities + (j + t)) k c 0 a b))))

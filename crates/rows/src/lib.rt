@@ -53,7 +53,6 @@ pub fn treat_row(
     if narrow(y, z) {
         return positions::treat_row(w, first, second, y, z, i, j, n, g);
     }
-    let m = w.agreement;
     let yq = y.qualities;
     let zq = z.qualities;
     let mut t = 0;
@@ -65,7 +64,7 @@ pub fn treat_row(
         let q = ReadOffset(j.0 + t);
         let left = n - t;
         let k = stretch::agreeing(first, second, y, z, p, q, left);
-        corrected += stretch_qualities::treat(m, first, yq + p.0, second, zq + q.0, k);
+        corrected += stretch_qualities::treat(w, first, yq + p.0, second, zq + q.0, k);
         agreeing += k as u64;
         t += k;
         if t < n {

@@ -1,25 +1,23 @@
 -- The rule's cases, as the code meets them; and what every treatment keeps.
-use Prim.Native.Nat.{ℕ, _+_, _-_, _≤_, _<_, min, max}
-use mathlib.Core.Path.{_≡_, refl, sym, ap, ap₂, _∙_}
+use Prim.Native.Nat.{ℕ, _+_, _-_, _≤_, _<_, max}
+use mathlib.Core.Path.{_≡_, ap₂}
 use mathlib.Core.Bool.{Bool, true, false, cond, _&&_, _||_}
 use native.Mathlib.Omega.{arith}
 use lib.Dec.{eqb, ltb, leb}
 use borrow.Author.Tests.{lt-ltb, le-ltb, le-leb, lt-leb, eq-eqb, ne-eqb}
 use Rattle.bases.specs.Code.{N}
-use Rattle.stats.specs.declared.CorrectionStats.{CorrectionStats}
-use Rattle.stats.specs.Counts.{counts, zeroed}
 use Rattle.stats.specs.Room.{AtMost}
 use Rattle.strategy.specs.declared.AgreementStrategy.{AgreementStrategy}
-use Rattle.strategy.specs.declared.AgreementStrategy.the-variants as Agree
 use Rattle.strategy.specs.declared.DisagreementStrategy.{DisagreementStrategy}
 use Rattle.strategy.specs.declared.DisagreementStrategy.the-variants as Differ
 use Rattle.strategy.specs.declared.Strategies.{Strategies}
 use Rattle.strategy.specs.declared.Treated.{Treated}
-use Rattle.strategy.specs.Rule.{out, agreedQual, agreedTo, agreed, differedBase, differedQual, differedCount, differedTo, differed, treated}
+use Rattle.strategy.specs.Rule.{qualBy, agreedTo, agreed, differedBase, differedCount, differedTo, differed, treated}
 
 -- ---- what the code answers, by the strategy that it matched
-pub agreed-as : (m m′ : AgreementStrategy) (x a b p q : ℕ) → m ≡ m′ → p ≡ agreedQual m′ a b → q ≡ agreedQual m′ b a → agreedTo x a b p q ≡ agreed m x a b
-agreed-as m m′ x a b p q e f g = ap₂ (agreedTo x a b) f g ∙ ap (λ (k : AgreementStrategy). agreed k x a b) (sym e)
+pub agreed-as : (w : Strategies) (m : AgreementStrategy) (x a b p q : ℕ) → w .agreement ≡ m → p ≡ qualBy m (w .cap) a b → q ≡ qualBy m (w .cap) b a
+    → agreedTo x a b p q ≡ agreed w x a b
+agreed-as w m x a b p q e f g = rw (e, f, g)
 
 module _ (k : DisagreementStrategy) (x a y b : ℕ) where
   pub call-second : k ≡ Differ.Consensus → a < b → differedTo y (max (b - a) 2) y (max (b - a) 2) 2 ≡ differed k x a y b

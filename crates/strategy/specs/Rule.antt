@@ -1,6 +1,6 @@
 -- What a shared position becomes: the first record's base x with quality a, the second's base y with quality b.
 use Prim.Native.Nat.{ℕ, _+_, _-_, min, max}
-use mathlib.Core.Bool.{Bool, cond, _&&_, _||_}
+use mathlib.Core.Bool.{cond, _&&_, _||_}
 use lib.Dec.{eqb, ltb, leb}
 use Rattle.bases.specs.Code.{N}
 use Rattle.stats.specs.declared.CorrectionStats.{CorrectionStats}
@@ -15,18 +15,21 @@ use Rattle.strategy.specs.declared.Treated.{Treated}
 abbrev pub out : ℕ → ℕ → ℕ → ℕ → CorrectionStats → Treated
 out x a y b g = record { base1 = x; qual1 = a; base2 = y; qual2 = b; growth = g }
 
--- the quality that a base of quality a gets beside an equal base of quality b
-abbrev pub agreedQual : AgreementStrategy → ℕ → ℕ → ℕ
-agreedQual Agree.Consensus a b = min (a + b) 93
-agreedQual Agree.MaxQual a b = max a b
-agreedQual Agree.PassThrough a b = a
+-- the quality that a base of quality a gets beside an equal base of quality b, by the strategy and the cap: the cap binds Consensus alone
+abbrev pub qualBy : AgreementStrategy → ℕ → ℕ → ℕ → ℕ
+qualBy Agree.Consensus cap a b = min (a + b) cap
+qualBy Agree.MaxQual cap a b = max a b
+qualBy Agree.PassThrough cap a b = a
+
+abbrev pub agreedQual : Strategies → ℕ → ℕ → ℕ
+agreedQual w a b = qualBy (w .agreement) (w .cap) a b
 
 -- both bases x stay and their qualities a and b become p and q: `corrected` grows by 1 if either changed
 abbrev pub agreedTo : ℕ → ℕ → ℕ → ℕ → ℕ → Treated
 agreedTo x a b p q = out x p x q (counts 1 1 0 (cond (eqb a p && eqb b q) 0 1))
 
-abbrev pub agreed : AgreementStrategy → ℕ → ℕ → ℕ → Treated
-agreed m x a b = agreedTo x a b (agreedQual m a b) (agreedQual m b a)
+abbrev pub agreed : Strategies → ℕ → ℕ → ℕ → Treated
+agreed w x a b = agreedTo x a b (agreedQual w a b) (agreedQual w b a)
 
 -- what a base x of quality a becomes beside another base y of quality b
 abbrev pub differedBase : DisagreementStrategy → ℕ → ℕ → ℕ → ℕ → ℕ
@@ -55,4 +58,4 @@ differed k x a y b =
 unfoldable pub treated : Strategies → ℕ → ℕ → ℕ → ℕ → Treated
 treated w x a y b =
     cond (eqb x N || eqb y N) (out x a y b zeroed)
-    (cond (eqb x y) (agreed (w .agreement) x a b) (differed (w .disagreement) x a y b))
+    (cond (eqb x y) (agreed w x a b) (differed (w .disagreement) x a y b))

@@ -1,4 +1,4 @@
-// What a shared position becomes: two bases and their qualities, treated by the two strategies.
+// What a shared position becomes: two bases and their qualities, treated by the two strategies and the cap.
 use bases::N;
 use refusal::Refusal;
 use stats::CorrectionStats;
@@ -7,6 +7,7 @@ ghost use Prim.Native.Nat.{_+_, _<_, min, max};
 ghost use mathlib.Core.Option.{some};
 ghost use Rattle.stats.specs.Counts.{zeroed};
 ghost use Rattle.strategy.specs.Rule.{out, agreedTo, agreed, differedTo, differed, treated};
+ghost use Rattle.strategy.specs.Cap.{capOutside, mostOf};
 ghost use Rattle.strategy.specs.Number.{agreementOf, disagreementOf, numberedOf};
 
 // What to do where both bases agree: add the qualities, take the larger, or leave both.
@@ -23,10 +24,12 @@ pub enum DisagreementStrategy {
     MaskLowerQual,
 }
 
-// The two strategies of a call.
+// The two strategies of a call, and the cap: the most that two qualities add up to where bases agree
+// under Consensus.
 pub struct Strategies {
     pub agreement: AgreementStrategy,
     pub disagreement: DisagreementStrategy,
+    pub cap: u8,
 }
 
 // Both bases with their qualities after the treatment, and by how much each count grows.
@@ -44,12 +47,45 @@ fn larger(a: u8, b: u8) -> u8
     if a < b { b } else { a }
 }
 
-// The smaller of the sum and 93, added where it cannot wrap.
-fn capped_sum(a: u8, b: u8) -> u8
-    ensures { λ r. ⌜ r ≡ min (a + b) 93 ⌝ }
-{
-    let sum = (a as u16) + (b as u16);
-    if sum < 93 { sum as u8 } else { 93 }
+// The least cap: the quality of a masked base.
+pub const LEAST_CAP: u8 = 2;
+
+// The largest cap: the end of the scale of printed qualities.
+pub const FULL_CAP: u8 = 93;
+
+impl Strategies {
+    // Whether the cap is none: not 2 to 93.
+    pub fn cap_outside(self) -> bool
+        ensures { λ r. ⌜ r ≡ capOutside (self .cap) ⌝ }
+    {
+        if self.cap < LEAST_CAP {
+            return true;
+        }
+        FULL_CAP < self.cap
+    }
+
+    // The most that agreement makes of a quality: the cap under Consensus, and any under the others.
+    pub fn most(self) -> u8
+        ensures { λ r. ⌜ r ≡ mostOf (self .agreement) (self .cap) ⌝ }
+    {
+        let m = self.agreement;
+        match m {
+            AgreementStrategy::Consensus => self.cap,
+            AgreementStrategy::MaxQual => 255,
+            AgreementStrategy::PassThrough => 255,
+        }
+    }
+
+    // The smaller of the sum and the cap, added where it cannot wrap.
+    fn capped_sum(self, a: u8, b: u8) -> u8
+        ensures { λ r. ⌜ r ≡ min (a + b) (self .cap) ⌝ }
+    {
+        let sum = (a as u16) + (b as u16);
+        if sum < self.cap as u16 {
+            return sum as u8;
+        }
+        self.cap
+    }
 }
 
 // Both qualities as p and q: one count is corrected if either is new.
@@ -76,13 +112,14 @@ fn requalified(x: u8, a: u8, b: u8, p: u8, q: u8) -> Treated
     }
 }
 
-// Two equal called bases x, of qualities a and b.
-fn process_agreement(m: AgreementStrategy, x: u8, a: u8, b: u8) -> Treated
-    ensures { λ r. ⌜ r ≡ agreed m x a b ⌝ }
+// Two equal called bases x, of qualities a and b. The cap binds Consensus alone.
+fn process_agreement(w: Strategies, x: u8, a: u8, b: u8) -> Treated
+    ensures { λ r. ⌜ r ≡ agreed w x a b ⌝ }
 {
+    let m = w.agreement;
     match m {
         AgreementStrategy::Consensus => {
-            let q = capped_sum(a, b);
+            let q = w.capped_sum(a, b);
             requalified(x, a, b, q, q)
         }
         AgreementStrategy::MaxQual => {
@@ -152,8 +189,7 @@ pub fn treat(w: Strategies, x: u8, a: u8, y: u8, b: u8) -> Treated
         return untouched(x, a, y, b);
     }
     if x == y {
-        let m = w.agreement;
-        return process_agreement(m, x, a, b);
+        return process_agreement(w, x, a, b);
     }
     let k = w.disagreement;
     process_disagreement(k, x, a, y, b)
@@ -172,7 +208,7 @@ fn untouched(x: u8, a: u8, y: u8, b: u8) -> Treated
     }
 }
 
-// Both strategies by their numbers, or the refusal of a number that is none.
+// Both strategies and the cap by their numbers, or the refusal of a number that is none.
 pub enum Numbered {
     Are(Strategies),
     Refused(Refusal),
@@ -205,9 +241,10 @@ fn disagreement_of(n: u32) -> DisagreementStrategy
     }
 }
 
-// The strategies that two numbers stand for. Refused where either is not 0 to 2.
-pub fn by_number(agreement: u32, disagreement: u32) -> Numbered
-    ensures { λ r. ⌜ r ≡ numberedOf agreement disagreement ⌝ }
+// The strategies that two numbers stand for, with the cap. Refused where either is not 0 to 2; then where
+// the cap is not 2 to 93.
+pub fn by_number(agreement: u32, disagreement: u32, cap: u32) -> Numbered
+    ensures { λ r. ⌜ r ≡ numberedOf agreement disagreement cap ⌝ }
 {
     if 2 < agreement {
         return Numbered::Refused(Refusal::Strategy);
@@ -217,8 +254,15 @@ pub fn by_number(agreement: u32, disagreement: u32) -> Numbered
     }
     let m = agreement_of(agreement);
     let k = disagreement_of(disagreement);
+    if cap < LEAST_CAP as u32 {
+        return Numbered::Refused(Refusal::Cap);
+    }
+    if (FULL_CAP as u32) < cap {
+        return Numbered::Refused(Refusal::Cap);
+    }
     Numbered::Are(Strategies {
         agreement: m,
         disagreement: k,
+        cap: cap as u8,
     })
 }

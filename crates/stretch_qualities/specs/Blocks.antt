@@ -5,7 +5,7 @@ use mathlib.Core.List.{List}
 use mathlib.Core.Bool.{cond}
 use lib.ListN.{getD, length}
 use lib.Dec.{ltb}
-use Rattle.strategy.specs.declared.AgreementStrategy.{AgreementStrategy}
+use Rattle.strategy.specs.declared.Strategies.{Strategies}
 use Rattle.lane.specs.declared.Qualities.{Qualities}
 use Rattle.lane.specs.LaneRule.{qualities, agreedOf, changedOf}
 use Rattle.stretch_qualities.specs.declared.Block.{Block}
@@ -16,17 +16,17 @@ sumOf f t zero = 0
 sumOf f t (suc m) = f t + sumOf f (suc t) m
 
 -- lane t, of the bytes p + t of a and q + t of b
-abbrev pub laneAt : AgreementStrategy → List ℕ → ℕ → List ℕ → ℕ → ℕ → ℕ → Qualities
-laneAt m a p b q d t = cond (ltb t d) (qualities (getD a (p + t) 0) (getD b (q + t) 0)) (agreedOf m (getD a (p + t) 0) (getD b (q + t) 0))
+abbrev pub laneAt : Strategies → List ℕ → ℕ → List ℕ → ℕ → ℕ → ℕ → Qualities
+laneAt w a p b q d t = cond (ltb t d) (qualities (getD a (p + t) 0) (getD b (q + t) 0)) (agreedOf w (getD a (p + t) 0) (getD b (q + t) 0))
 
 -- 1 where it changes a quality
-abbrev pub changeAt : AgreementStrategy → List ℕ → ℕ → List ℕ → ℕ → ℕ → ℕ → ℕ
-changeAt m a p b q d t = changedOf (getD a (p + t) 0) (getD b (q + t) 0) (laneAt m a p b q d t .qual1) (laneAt m a p b q d t .qual2)
+abbrev pub changeAt : Strategies → List ℕ → ℕ → List ℕ → ℕ → ℕ → ℕ → ℕ
+changeAt w a p b q d t = changedOf (getD a (p + t) 0) (getD b (q + t) 0) (laneAt w a p b q d t .qual1) (laneAt w a p b q d t .qual2)
 
 -- l holds the 32 lanes, and how many of them change a quality
-pub record BlockOf (m : AgreementStrategy) (a : List ℕ) (p : ℕ) (b : List ℕ) (q d : ℕ) (l : Block) : Type 0 where
+pub record BlockOf (w : Strategies) (a : List ℕ) (p : ℕ) (b : List ℕ) (q d : ℕ) (l : Block) : Type 0 where
   pub length₁ : length (l .qual1) ≡ 32
   pub length₂ : length (l .qual2) ≡ 32
-  pub qual1 : (t : ℕ) → t < 32 → getD (l .qual1) t 0 ≡ laneAt m a p b q d t .qual1
-  pub qual2 : (t : ℕ) → t < 32 → getD (l .qual2) t 0 ≡ laneAt m a p b q d t .qual2
-  pub corrected : l .corrected ≡ sumOf (changeAt m a p b q d) 0 32
+  pub qual1 : (t : ℕ) → t < 32 → getD (l .qual1) t 0 ≡ laneAt w a p b q d t .qual1
+  pub qual2 : (t : ℕ) → t < 32 → getD (l .qual2) t 0 ≡ laneAt w a p b q d t .qual2
+  pub corrected : l .corrected ≡ sumOf (changeAt w a p b q d) 0 32

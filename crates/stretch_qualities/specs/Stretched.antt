@@ -2,7 +2,7 @@
 use Prim.Native.Nat.{ℕ, zero, suc, _+_}
 use mathlib.Core.List.{List}
 use lib.ListN.{getD, set}
-use Rattle.strategy.specs.declared.AgreementStrategy.{AgreementStrategy}
+use Rattle.strategy.specs.declared.Strategies.{Strategies}
 use Rattle.lane.specs.declared.Qualities.{Qualities}
 use Rattle.lane.specs.LaneRule.{agreedOf, changedOf}
 
@@ -19,11 +19,11 @@ stretched a b c = record { first = a; second = b; corrected = c }
 abbrev pub requalified : ℕ → ℕ → ℕ → ℕ → Qualities → Stretched → Stretched
 requalified p q x y r s = stretched (set (s .first) p (r .qual1)) (set (s .second) q (r .qual2)) (s .corrected + changedOf x y (r .qual1) (r .qual2))
 
--- one position, under the strategy m
-abbrev pub agreedAt : AgreementStrategy → ℕ → ℕ → Stretched → Stretched
-agreedAt m p q s = requalified p q (getD (s .first) p 0) (getD (s .second) q 0) (agreedOf m (getD (s .first) p 0) (getD (s .second) q 0)) s
+-- one position, by the strategies w
+abbrev pub agreedAt : Strategies → ℕ → ℕ → Stretched → Stretched
+agreedAt w p q s = requalified p q (getD (s .first) p 0) (getD (s .second) q 0) (agreedOf w (getD (s .first) p 0) (getD (s .second) q 0)) s
 
 -- n positions in a row, from the bytes p and q on
-unfoldable pub agreedRow : AgreementStrategy → ℕ → ℕ → ℕ → Stretched → Stretched
-agreedRow m p q zero s = s
-agreedRow m p q (suc n) s = agreedRow m (suc p) (suc q) n (agreedAt m p q s)
+unfoldable pub agreedRow : Strategies → ℕ → ℕ → ℕ → Stretched → Stretched
+agreedRow w p q zero s = s
+agreedRow w p q (suc n) s = agreedRow w (suc p) (suc q) n (agreedAt w p q s)

@@ -20,6 +20,9 @@ cast-by-number c = search needs
 cast-by-number-2 : tie.Need-cast-by-number-2
 cast-by-number-2 c = search needs
 
+cast-by-number-3 : tie.Need-cast-by-number-3
+cast-by-number-3 c = search needs
+
 by-number-requires : tie.Need-by-number-requires
 by-number-requires c κs = search needs
 
@@ -168,6 +171,7 @@ correct-raw-spec =
     (tie.spec
     cast-by-number
     cast-by-number-2
+    cast-by-number-3
     by-number-requires
     enum-known-numbered
     enum-told

@@ -6,6 +6,9 @@ use borrow.Author.Needs.{needs}
 use Rattle.filed_raw.proofs.file.Statement.{statement}
 use Rattle.filed_raw.proofs.file.Tie as tie
 
+cast-by-number : tie.Need-cast-by-number
+cast-by-number c = search needs
+
 by-number-requires : tie.Need-by-number-requires
 by-number-requires c κs = search needs
 
@@ -118,6 +121,7 @@ pub file-spec : {M : Type 1} → statement M
 file-spec =
     tie.close
     (tie.spec
+    cast-by-number
     by-number-requires
     enum-told
     enum-told-2

@@ -31,7 +31,7 @@ returns c =
     let by-by-number = by-numbered2 .before .before in
     let entry = by-by-number .before .before in
     let args = entry .args in
-    too-full (args .agreement) (args .disagreement) (now (args .buf)) (args .stats) (by-by-number .by-number .result)
+    too-full (args .agreement) (args .disagreement) (args .cap) (now (args .buf)) (args .stats) (by-by-number .by-number .result)
     (by-by-number .by-number .ensures) _ (by-numbered2 .numbered2 .given .1) (sym (by-full .full .ensures) ∙ c .before .if1 .taken)
     (c .refused2 .result) (c .refused2 .ensures)
 
@@ -47,7 +47,7 @@ returns-2 c =
     let by-by-number = by-numbered .before .before in
     let entry = by-by-number .before .before in
     let args = entry .args in
-    no-strategy (args .agreement) (args .disagreement) (now (args .buf)) (args .stats) (by-by-number .by-number .result)
+    no-strategy (args .agreement) (args .disagreement) (args .cap) (now (args .buf)) (args .stats) (by-by-number .by-number .result)
     (by-by-number .by-number .ensures) _ (by-numbered .numbered .given .1) (c .refused .result) (c .refused .ensures)
 
 same-length : tie.Need-same-length
@@ -62,7 +62,7 @@ returns-3 c =
     let by-by-number = by-numbered2 .before .before in
     let entry = by-by-number .before .before in
     let args = entry .args in
-    goes-on (args .agreement) (args .disagreement) (now (args .buf)) (args .stats) (by-by-number .by-number .result)
+    goes-on (args .agreement) (args .disagreement) (args .cap) (now (args .buf)) (args .stats) (by-by-number .by-number .result)
     (by-by-number .by-number .ensures) _ (by-numbered2 .numbered2 .given .1) (sym (by-full .full .ensures) ∙ by-if1 .if1 .left) _
     (by-group-framed .group-framed .result) (by-group-framed .group-framed .ensures)
 

@@ -124,8 +124,9 @@ plus-requires c κs =
 
 add-i-2 : tie.Need-add-i-2 Inv-loop μ-loop
 add-i-2 c =
-    let entry = c .before .before .before .before .before .before .before .before .before .before .before .before .before .before .before .before .before .before in
-    omega (arith, entry .pre .0 .few)
+    let by-loop-test = c .before .before .before .before .before .before .before .before .before .before .before .before in
+    let entry = by-loop-test .before .before .before .before .before .before in
+    omega (arith, entry .pre .0 .few, by-loop-test .loop-test .taken)
 
 loop-less-2 : tie.Need-loop-less-2 Inv-loop μ-loop
 loop-less-2 c =

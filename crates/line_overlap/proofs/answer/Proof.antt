@@ -50,6 +50,9 @@ part-group-start c = search needs
 part-group-end : tie.Need-part-group-end
 part-group-end c = search needs
 
+cast-group : tie.Need-cast-group
+cast-group c = search needs
+
 new-requires : tie.Need-new-requires
 new-requires c κs = search needs
 
@@ -129,6 +132,7 @@ answer-spec =
     number-at-requires-2
     part-group-start
     part-group-end
+    cast-group
     new-requires
     group-requires
     enum-known-a

@@ -16,7 +16,7 @@ returns c =
     let by-if1 = c .before in
     let entry = by-if1 .before .before .before .before in
     let args = entry .args in
-    slice-wrong (now (args .first)) (now (args .second)) (args .agreement) (args .disagreement) (now (args .counts)) _ (c .code .ensures) (by-if1 .if1 .taken)
+    slice-wrong (now (args .first)) (now (args .second)) (args .agreement) (args .disagreement) (args .cap) (now (args .counts)) _ (c .code .ensures) (by-if1 .if1 .taken)
 
 by-number-requires : tie.Need-by-number-requires
 by-number-requires c κs = search needs
@@ -27,8 +27,8 @@ enum-known-numbered c = search needs
 enum-told : tie.Need-enum-told
 enum-told c = search needs
 
-code-requires-2 : tie.Need-code-requires-2
-code-requires-2 c κs = search needs
+misnumbered-requires : tie.Need-misnumbered-requires
+misnumbered-requires c κs = search needs
 
 returns-2 : tie.Need-returns-2
 returns-2 c =
@@ -36,8 +36,8 @@ returns-2 c =
     let by-if1 = by-by-number .before in
     let entry = by-if1 .before .before .before .before in
     let args = entry .args in
-    numbers-wrong (now (args .first)) (now (args .second)) (args .agreement) (args .disagreement) (now (args .counts)) (by-if1 .if1 .left)
-    (by-by-number .by-number .result) (by-by-number .by-number .ensures) _ _ (c .code2 .ensures) (c .before .enum-told .given .1)
+    numbers-wrong (now (args .first)) (now (args .second)) (args .agreement) (args .disagreement) (args .cap) (now (args .counts)) (by-if1 .if1 .left)
+    (by-by-number .by-number .result) (by-by-number .by-number .ensures) _ _ (c .misnumbered .ensures) (c .before .enum-told .given .1)
 
 counts-at-requires : tie.Need-counts-at-requires
 counts-at-requires c κs = search needs
@@ -57,8 +57,8 @@ put-counts-requires c κs = search needs
 enum-known-answer : tie.Need-enum-known-answer
 enum-known-answer c = search needs
 
-code-requires-3 : tie.Need-code-requires-3
-code-requires-3 c κs = search needs
+code-requires-2 : tie.Need-code-requires-2
+code-requires-2 c κs = search needs
 
 same-length : tie.Need-same-length
 same-length c = search needs
@@ -80,7 +80,7 @@ returns-3 c =
     let args = entry .args in
     let counts = now (args .counts) in
     called-none counts (outcome (by-call .call .result .answer) (state _ _ (by-call .call .result .stats))) _ (c .enum-told2 .given .1)
-    ∙ called-as (now (args .first)) (now (args .second)) (args .agreement) (args .disagreement) counts (by-if1 .if1 .left)
+    ∙ called-as (now (args .first)) (now (args .second)) (args .agreement) (args .disagreement) (args .cap) counts (by-if1 .if1 .left)
     (by-by-number .by-number .result) (by-by-number .by-number .ensures) _ (by-counts-at .counts-at .result) _
     (by-numbered .numbered .given .1) (by-counts-at .counts-at .ensures) (by-call .call .ensures)
 
@@ -107,7 +107,7 @@ returns-4 c =
     let counts = now (args .counts) in
     called-overlap counts (outcome (by-call .call .result .answer) (state _ _ (by-call .call .result .stats))) _
     (by-enum-told3 .enum-told3 .given .1) (by-put-counts .put-counts .ensures) ∙ called-as (now (args .first)) (now (args .second))
-    (args .agreement) (args .disagreement) counts (by-if1 .if1 .left) (by-by-number .by-number .result)
+    (args .agreement) (args .disagreement) (args .cap) counts (by-if1 .if1 .left) (by-by-number .by-number .result)
     (by-by-number .by-number .ensures) _ (by-counts-at .counts-at .result) _ (by-numbered .numbered .given .1)
     (by-counts-at .counts-at .ensures) (by-call .call .ensures)
 
@@ -132,8 +132,8 @@ returns-5 c =
     let args = entry .args in
     let counts = now (args .counts) in
     called-refused counts (outcome (by-call .call .result .answer) (state _ _ (by-call .call .result .stats))) _ _
-    (by-answer .answer .given .1) (c .code3 .ensures) ∙ called-as (now (args .first)) (now (args .second)) (args .agreement)
-    (args .disagreement) counts (by-if1 .if1 .left) (by-by-number .by-number .result) (by-by-number .by-number .ensures) _
+    (by-answer .answer .given .1) (c .code2 .ensures) ∙ called-as (now (args .first)) (now (args .second)) (args .agreement)
+    (args .disagreement) (args .cap) counts (by-if1 .if1 .left) (by-by-number .by-number .result) (by-by-number .by-number .ensures) _
     (by-counts-at .counts-at .result) _ (by-numbered .numbered .given .1) (by-counts-at .counts-at .ensures) (by-call .call .ensures)
 
 pub call-spec : {M : Type 1} → statement M
@@ -145,7 +145,7 @@ call-spec =
     by-number-requires
     enum-known-numbered
     enum-told
-    code-requires-2
+    misnumbered-requires
     returns-2
     counts-at-requires
     call-requires
@@ -153,7 +153,7 @@ call-spec =
     enum-told-3
     put-counts-requires
     enum-known-answer
-    code-requires-3
+    code-requires-2
     same-length
     same-length-2
     same-length-3

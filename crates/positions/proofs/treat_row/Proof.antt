@@ -15,11 +15,11 @@ use Rattle.positions.proofs.treat_row.Statement.{statement}
 use Rattle.positions.proofs.treat_row.Tie as tie
 
 abbrev Inv-loop : tie.InvT-loop
-Inv-loop w first₀ second₀ y z i j n m yq zq t₀ h₀ agreeing₀ corrected₀ first second t h agreeing corrected =
+Inv-loop w first₀ second₀ y z i j n yq zq t₀ h₀ agreeing₀ corrected₀ first second t h agreeing corrected =
     Adding w y z (i .0) (j .0) n (state first₀ second₀ h₀) t first second h agreeing corrected
 
 abbrev μ-loop : tie.MeasureT-loop
-μ-loop w first₀ second₀ y z i j n m yq zq t₀ h₀ agreeing₀ corrected₀ first second t h agreeing corrected = n - t
+μ-loop w first₀ second₀ y z i j n yq zq t₀ h₀ agreeing₀ corrected₀ first second t h agreeing corrected = n - t
 
 loop-holds : tie.Need-loop-holds Inv-loop μ-loop
 loop-holds c =
@@ -29,11 +29,11 @@ loop-holds c =
     (state (now (args .first)) (now (args .second)) (args .g)) (entry .pre .4) (λ k q. omega (arith, c .before .slice-known .given k))
     (λ k q. omega (arith, c .slice-known2 .given k))
 
-add-t23 : tie.Need-add-t23 Inv-loop μ-loop
-add-t23 c = omega arith
+add-t22 : tie.Need-add-t22 Inv-loop μ-loop
+add-t22 c = omega arith
 
-add-t23-2 : tie.Need-add-t23-2 Inv-loop μ-loop
-add-t23-2 c = omega arith
+add-t22-2 : tie.Need-add-t22-2 Inv-loop μ-loop
+add-t22-2 c = omega arith
 
 get-requires : tie.Need-get-requires Inv-loop μ-loop
 get-requires c κs =
@@ -227,8 +227,8 @@ treat-row-spec =
     Inv-loop
     μ-loop
     loop-holds
-    add-t23
-    add-t23-2
+    add-t22
+    add-t22-2
     get-requires
     get-requires-2
     add-t

@@ -12,11 +12,11 @@ use Rattle.rows.proofs.treat_row.Statement.{statement}
 use Rattle.rows.proofs.treat_row.Tie as tie
 
 abbrev Inv-loop : tie.InvT-loop
-Inv-loop w first₀ second₀ y z i j n m yq zq t₀ h₀ agreeing₀ corrected₀ first second t h agreeing corrected =
+Inv-loop w first₀ second₀ y z i j n yq zq t₀ h₀ agreeing₀ corrected₀ first second t h agreeing corrected =
     Adding w y z (i .0) (j .0) n (state first₀ second₀ h₀) t first second h agreeing corrected
 
 abbrev μ-loop : tie.MeasureT-loop
-μ-loop w first₀ second₀ y z i j n m yq zq t₀ h₀ agreeing₀ corrected₀ first second t h agreeing corrected = n - t
+μ-loop w first₀ second₀ y z i j n yq zq t₀ h₀ agreeing₀ corrected₀ first second t h agreeing corrected = n - t
 
 narrow-requires : tie.Need-narrow-requires Inv-loop μ-loop
 narrow-requires c κs = search needs
@@ -121,14 +121,14 @@ add-t c =
     let entry = by-loop-test .before .before .before .before .before .before in
     omega (arith, by-agreeing .agreeing .ensures .most, by-loop-test .loop-test .taken, entry .pre .2, entry .pre .0 .qualities, entry .good .1 .0 .0)
 
-add-t40 : tie.Need-add-t40 Inv-loop μ-loop
-add-t40 c =
+add-t39 : tie.Need-add-t39 Inv-loop μ-loop
+add-t39 c =
     let by-if2 = c .before in
     let entry = by-if2 .before .before .before .before .before .before .before .before .before .before .before .before .before .before .before .before .before .before .before .before .before in
     omega (arith, by-if2 .if2 .taken, entry .pre .2, entry .pre .0 .qualities, entry .good .1 .0 .0)
 
-add-t40-2 : tie.Need-add-t40-2 Inv-loop μ-loop
-add-t40-2 c =
+add-t39-2 : tie.Need-add-t39-2 Inv-loop μ-loop
+add-t39-2 c =
     let by-if2 = c .before .before in
     let entry = by-if2 .before .before .before .before .before .before .before .before .before .before .before .before .before .before .before .before .before .before .before .before .before in
     omega (arith, by-if2 .if2 .taken, entry .pre .3, entry .pre .1 .qualities, entry .good .1 .1 .0 .0)
@@ -261,8 +261,8 @@ treat-row-spec =
     add-corrected
     add-agreeing
     add-t
-    add-t40
-    add-t40-2
+    add-t39
+    add-t39-2
     treat-one-requires
     add-t-2
     loop-less

@@ -37,7 +37,7 @@ returns c =
     let by-enum-told = by-capped-sum .before in
     let entry = by-enum-told .before .before in
     let args = entry .args in
-    c .requalified .ensures ∙ agreed-as (args .m) Agree.Consensus (args .x) (args .a) (args .b) (by-capped-sum .capped-sum .result)
+    c .requalified .ensures ∙ agreed-as (args .w) Agree.Consensus (args .x) (args .a) (args .b) (by-capped-sum .capped-sum .result)
     (by-capped-sum .capped-sum .result) (by-enum-told .enum-told .given .1) (by-capped-sum .capped-sum .ensures)
     (by-capped-sum .capped-sum .ensures ∙ omega arith)
 
@@ -47,7 +47,7 @@ returns-2 c =
     let by-enum-told2 = by-larger .before in
     let entry = by-enum-told2 .before .before in
     let args = entry .args in
-    c .requalified2 .ensures ∙ agreed-as (args .m) Agree.MaxQual (args .x) (args .a) (args .b) (by-larger .larger .result)
+    c .requalified2 .ensures ∙ agreed-as (args .w) Agree.MaxQual (args .x) (args .a) (args .b) (by-larger .larger .result)
     (by-larger .larger .result) (by-enum-told2 .enum-told2 .given .1) (by-larger .larger .ensures)
     (by-larger .larger .ensures ∙ omega arith)
 
@@ -55,7 +55,7 @@ returns-3 : tie.Need-returns-3
 returns-3 c =
     let entry = c .before .before .before in
     let args = entry .args in
-    c .requalified3 .ensures ∙ agreed-as (args .m) Agree.PassThrough (args .x) (args .a) (args .b) (args .a) (args .b)
+    c .requalified3 .ensures ∙ agreed-as (args .w) Agree.PassThrough (args .x) (args .a) (args .b) (args .a) (args .b)
     (c .before .enum-told3 .given .1) refl refl
 
 pub process-agreement-spec : {M : Type 1} → statement M

@@ -77,9 +77,9 @@ loop-again c =
     let args = entry .args in
     let loop = turn .loop in (
       loop .inv .0,
-      filling-turn (args .m) (now (args .first)) (args .p) (now (args .second)) (args .q) (32 - args .n) (loop .t) (loop .qual1) (loop .qual2) (loop .corrected)
+      filling-turn (args .w) (now (args .first)) (args .p) (now (args .second)) (args .q) (32 - args .n) (loop .t) (loop .qual1) (loop .qual2) (loop .corrected)
           (by-chosen .chosen .result) (c .changed .result) (by-loop-test .loop-test .taken)
-          (lane-last (args .m) (now (args .first)) (args .p) (now (args .second)) (args .q) (args .n) (loop .t)
+          (lane-last (args .w) (now (args .first)) (args .p) (now (args .second)) (args .q) (args .n) (loop .t)
           (by-agreed .agreed .result) (by-chosen .chosen .result) (entry .pre .2) (by-loop-test .loop-test .taken) (by-agreed .agreed .ensures) (by-chosen .chosen .ensures))
           (c .changed .ensures) (loop .inv .1),
     )
@@ -90,7 +90,7 @@ returns c =
     let entry = turn .before .before .before .before in
     let args = entry .args in
     let loop = turn .loop in
-    filling-end (args .m) (now (args .first)) (args .p) (now (args .second)) (args .q) (32 - args .n) (loop .t) _ (c .loop-test .left) (loop .inv .1)
+    filling-end (args .w) (now (args .first)) (args .p) (now (args .second)) (args .q) (32 - args .n) (loop .t) _ (c .loop-test .left) (loop .inv .1)
 
 pub fill-last-spec : {M : Type 1} → statement M
 fill-last-spec =

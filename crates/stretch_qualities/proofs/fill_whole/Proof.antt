@@ -65,9 +65,9 @@ loop-again c =
     let entry = turn .before .before .before in
     let args = entry .args in
     let loop = turn .loop in
-    filling-turn (args .m) (now (args .first)) (args .p) (now (args .second)) (args .q) 0 (loop .t) (loop .qual1) (loop .qual2) (loop .corrected)
+    filling-turn (args .w) (now (args .first)) (args .p) (now (args .second)) (args .q) 0 (loop .t) (loop .qual1) (loop .qual2) (loop .corrected)
     (by-agreed .agreed .result) (c .changed .result) (by-loop-test .loop-test .taken)
-    (lane-whole (args .m) (now (args .first)) (args .p) (now (args .second)) (args .q) (loop .t) (by-agreed .agreed .result) (by-agreed .agreed .ensures))
+    (lane-whole (args .w) (now (args .first)) (args .p) (now (args .second)) (args .q) (loop .t) (by-agreed .agreed .result) (by-agreed .agreed .ensures))
     (c .changed .ensures) (loop .inv)
 
 returns : tie.Need-returns Inv-loop μ-loop
@@ -76,7 +76,7 @@ returns c =
     let entry = turn .before .before .before in
     let args = entry .args in
     let loop = turn .loop in
-    filling-end (args .m) (now (args .first)) (args .p) (now (args .second)) (args .q) 0 (loop .t) _ (c .loop-test .left) (loop .inv)
+    filling-end (args .w) (now (args .first)) (args .p) (now (args .second)) (args .q) 0 (loop .t) _ (c .loop-test .left) (loop .inv)
 
 pub fill-whole-spec : {M : Type 1} → statement M
 fill-whole-spec =

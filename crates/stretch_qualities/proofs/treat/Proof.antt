@@ -45,7 +45,7 @@ add-corrected c =
     let loop = turn .loop in
     omega (
       arith,
-      (going-more (args .m) (args .p) (args .q) (args .n) (stretched (now (args .first)) (now (args .second)) 0)
+      (going-more (args .w) (args .p) (args .q) (args .n) (stretched (now (args .first)) (now (args .second)) 0)
           (loop .t) 32 _ _ (loop .first) (loop .second) (loop .corrected) _ _ (by-treat-whole .treat-whole .result)
           (omega (arith, by-loop-test .loop-test .taken)) refl refl (loop .inv) (by-treat-whole .treat-whole .ensures)) .few,
     )
@@ -64,7 +64,7 @@ loop-again c =
     let entry = turn .before .before .before in
     let args = entry .args in
     let loop = turn .loop in
-    going-more (args .m) (args .p) (args .q) (args .n) (stretched (now (args .first)) (now (args .second)) 0)
+    going-more (args .w) (args .p) (args .q) (args .n) (stretched (now (args .first)) (now (args .second)) 0)
     (loop .t) 32 _ _ (loop .first) (loop .second) (loop .corrected) _ _ (by-treat-whole .treat-whole .result)
     (omega (arith, by-loop-test .loop-test .taken)) refl refl (loop .inv) (by-treat-whole .treat-whole .ensures)
 
@@ -97,7 +97,7 @@ add-corrected-2 c =
     let loop = turn .loop in
     omega (
       arith,
-      (going-more (args .m) (args .p) (args .q) (args .n) (stretched (now (args .first)) (now (args .second)) 0)
+      (going-more (args .w) (args .p) (args .q) (args .n) (stretched (now (args .first)) (now (args .second)) 0)
           (loop .t) (args .n - loop .t) _ _ (loop .first) (loop .second) (loop .corrected) _ _ (by-treat-last .treat-last .result)
           (omega (arith, loop .inv .low)) (omega (arith, loop .inv .low)) (omega (arith, loop .inv .low)) (loop .inv) (by-treat-last .treat-last .ensures)) .few,
     )
@@ -109,7 +109,7 @@ same-length c =
     let entry = turn .before .before .before in
     let args = entry .args in
     let loop = turn .loop in
-    (going-more (args .m) (args .p) (args .q) (args .n) (stretched (now (args .first)) (now (args .second)) 0)
+    (going-more (args .w) (args .p) (args .q) (args .n) (stretched (now (args .first)) (now (args .second)) 0)
     (loop .t) (args .n - loop .t) _ _ (loop .first) (loop .second) (loop .corrected) _ _ (by-treat-last .treat-last .result)
     (omega (arith, loop .inv .low)) (omega (arith, loop .inv .low)) (omega (arith, loop .inv .low)) (loop .inv) (by-treat-last .treat-last .ensures)) .first
 
@@ -120,7 +120,7 @@ same-length-2 c =
     let entry = turn .before .before .before in
     let args = entry .args in
     let loop = turn .loop in
-    (going-more (args .m) (args .p) (args .q) (args .n) (stretched (now (args .first)) (now (args .second)) 0)
+    (going-more (args .w) (args .p) (args .q) (args .n) (stretched (now (args .first)) (now (args .second)) 0)
     (loop .t) (args .n - loop .t) _ _ (loop .first) (loop .second) (loop .corrected) _ _ (by-treat-last .treat-last .result)
     (omega (arith, loop .inv .low)) (omega (arith, loop .inv .low)) (omega (arith, loop .inv .low)) (loop .inv) (by-treat-last .treat-last .ensures)) .second
 
@@ -131,7 +131,7 @@ returns c =
     let entry = turn .before .before .before in
     let args = entry .args in
     let loop = turn .loop in
-    going-end (args .m) (args .p) (args .q) (args .n) (stretched (now (args .first)) (now (args .second)) 0) _ _ _ _ (omega (arith, loop .inv .low)) refl (going-more (args .m) (args .p) (args .q) (args .n) (stretched (now (args .first)) (now (args .second)) 0)
+    going-end (args .w) (args .p) (args .q) (args .n) (stretched (now (args .first)) (now (args .second)) 0) _ _ _ _ (omega (arith, loop .inv .low)) refl (going-more (args .w) (args .p) (args .q) (args .n) (stretched (now (args .first)) (now (args .second)) 0)
     (loop .t) (args .n - loop .t) _ _ (loop .first) (loop .second) (loop .corrected) _ _ (by-treat-last .treat-last .result)
     (omega (arith, loop .inv .low)) (omega (arith, loop .inv .low)) (omega (arith, loop .inv .low)) (loop .inv) (by-treat-last .treat-last .ensures))
 
@@ -153,7 +153,7 @@ returns-2 c =
     let entry = turn .before .before .before in
     let args = entry .args in
     let loop = turn .loop in
-    going-end (args .m) (args .p) (args .q) (args .n) (stretched (now (args .first)) (now (args .second)) 0) (loop .t) _ _ _ (c .if1 .left) refl (loop .inv)
+    going-end (args .w) (args .p) (args .q) (args .n) (stretched (now (args .first)) (now (args .second)) 0) (loop .t) _ _ _ (c .if1 .left) refl (loop .inv)
 
 pub treat-spec : {M : Type 1} → statement M
 treat-spec =

@@ -42,7 +42,7 @@ returns c =
     let kept : args .end1 - 32 + (32 - args .n) ≡ args .end1 - args .n = omega (arith, entry .pre .0, entry .pre .4) in
     let kept2 : args .end2 - 32 + (32 - args .n) ≡ args .end2 - args .n = omega (arith, entry .pre .2, entry .pre .4) in
     let left : 32 - (32 - args .n) ≡ args .n = omega (arith, entry .pre .4) in
-    rw (kept, kept2, left) at (block-row (args .m) (now (args .first)) (args .end1 - 32) (now (args .second)) (args .end2 - 32) (32 - args .n) (by-last .last .result) (omega arith)
+    rw (kept, kept2, left) at (block-row (args .w) (now (args .first)) (args .end1 - 32) (now (args .second)) (args .end2 - 32) (32 - args .n) (by-last .last .result) (omega arith)
     (by-last .last .ensures) _ _ (c .wide .result) (by-store .store .ensures) (by-store2 .store2 .ensures) (c .wide .ensures))
 
 pub treat-last-spec : {M : Type 1} → statement M

@@ -35,7 +35,7 @@ returns c =
     let args = entry .args in
     let plus-none : args .p + 0 ≡ args .p = omega arith in
     let plus-none2 : args .q + 0 ≡ args .q = omega arith in
-    rw (plus-none, plus-none2) at (block-row (args .m) (now (args .first)) (args .p) (now (args .second)) (args .q) 0 (by-whole .whole .result) (omega arith)
+    rw (plus-none, plus-none2) at (block-row (args .w) (now (args .first)) (args .p) (now (args .second)) (args .q) 0 (by-whole .whole .result) (omega arith)
     (by-whole .whole .ensures) _ _ (c .wide .result) (by-store .store .ensures) (by-store2 .store2 .ensures) (c .wide .ensures))
 
 pub treat-whole-spec : {M : Type 1} → statement M

@@ -102,6 +102,12 @@ enum-told-9 c = search needs
 plain-requires-16 : tie.Need-plain-requires-16
 plain-requires-16 c κs = search needs
 
+enum-told-10 : tie.Need-enum-told-10
+enum-told-10 c = search needs
+
+plain-requires-17 : tie.Need-plain-requires-17
+plain-requires-17 c κs = search needs
+
 returns : tie.Need-returns
 returns c = rw (c .before .before .self .given .1) (c .plain .ensures)
 
@@ -153,6 +159,9 @@ returns-16 c = rw (c .before .enum-told8 .given .1) (c .plain15 .ensures)
 returns-17 : tie.Need-returns-17
 returns-17 c = rw (c .before .enum-told9 .given .1) (c .plain16 .ensures)
 
+returns-18 : tie.Need-returns-18
+returns-18 c = rw (c .before .enum-told10 .given .1) (c .plain17 .ensures)
+
 pub row-spec : {M : Type 1} → statement M
 row-spec =
     tie.close
@@ -190,6 +199,8 @@ row-spec =
     plain-requires-15
     enum-told-9
     plain-requires-16
+    enum-told-10
+    plain-requires-17
     returns
     returns-2
     returns-3
@@ -206,4 +217,5 @@ row-spec =
     returns-14
     returns-15
     returns-16
-    returns-17)
+    returns-17
+    returns-18)
