@@ -27,7 +27,7 @@ use published::overlapping::{
     AgreementStrategy as A, DisagreementStrategy as D, OverlappingBasesConsensusCaller as Caller,
     apply_overlapping_consensus,
 };
-use record::Case;
+use record::{CAP, Case, Ways};
 use rng::Rng;
 use std::hint::black_box;
 use std::io::Write;
@@ -36,7 +36,8 @@ use workloads as w;
 
 type Call = unsafe extern "C" fn(*mut u8, usize, *mut u8, usize, u32, u32, *mut u8, usize) -> u32;
 unsafe extern "C" {
-    fn overlap_call(a: *mut u8, b: usize, c: *mut u8, d: usize, e: u32, f: u32, g: *mut u8, h: usize) -> u32;
+    #[link_name = "overlap_call_2"]
+    fn overlap_call(a: *mut u8, b: usize, c: *mut u8, d: usize, e: u32, f: u32, cap: u32, g: *mut u8, h: usize) -> u32;
     fn limit_run(a: *mut u8, b: usize, c: *mut u8, d: usize, e: u32, f: u32, g: *mut u8, h: usize) -> u32;
     fn limit_block(a: *mut u8, b: usize, c: *mut u8, d: usize, e: u32, f: u32, g: *mut u8, h: usize) -> u32;
     #[cfg(target_arch = "x86_64")]
@@ -45,14 +46,16 @@ unsafe extern "C" {
     fn getrusage(who: i32, usage: *mut [i64; 18]) -> i32;
 }
 
+/// Ours takes a cap too, and gets the one that the others have.
 #[derive(Clone, Copy)]
 enum Side {
     Rust,
+    Ours,
     C(Call),
 }
 const SIDES: &[(&str, Side)] = &[
     ("rust", Side::Rust),
-    ("ours", Side::C(overlap_call)),
+    ("ours", Side::Ours),
     ("c-run", Side::C(limit_run)),
     ("c-block", Side::C(limit_block)),
     #[cfg(target_arch = "x86_64")]
@@ -106,6 +109,7 @@ fn timed_pairs(side: Side, p: &mut Pairs, rust: &mut Caller, how: (u32, u32), co
                     let first = std::slice::from_raw_parts_mut(a, a_len);
                     u64::from(rust.call(first, std::slice::from_raw_parts_mut(b, b_len)).unwrap())
                 }
+                Side::Ours => u64::from(overlap_call(a, a_len, b, b_len, how.0, how.1, CAP, counts.as_mut_ptr(), 32)),
                 Side::C(call) => u64::from(call(a, a_len, b, b_len, how.0, how.1, counts.as_mut_ptr(), 32)),
             }
         };
@@ -203,14 +207,20 @@ fn verify_made(kind: &str, make: fn(&mut Rng) -> Case, pairs: u64) {
         let case = make(&mut r);
         let mut want = [case.first.clone(), case.second.clone(), case.counts.clone()];
         let [a, b, c] = &mut want;
-        let answer = model::pair(a, b, case.agreement, case.disagreement, c).code();
+        let answer = model::pair(a, b, case.ways(), c).code();
         for &(side, run) in SIDES {
-            let Side::C(call) = run else { continue };
             let mut lent = [&case.first, &case.second, &case.counts].map(|bytes| guarded(bytes));
             let [a, b, c] = lent.each_mut().map(|bytes| bytes[16..].as_mut_ptr());
             let (a_len, b_len, c_len) = (case.first.len(), case.second.len(), case.counts.len());
+            let Ways { agreement, disagreement, cap } = case.ways();
             // SAFETY: three buffers of their own, each with its length.
-            let got = unsafe { call(a, a_len, b, b_len, case.agreement, case.disagreement, c, c_len) };
+            let got = unsafe {
+                match run {
+                    Side::Rust => continue,
+                    Side::Ours => overlap_call(a, a_len, b, b_len, agreement, disagreement, cap, c, c_len),
+                    Side::C(call) => call(a, a_len, b, b_len, agreement, disagreement, c, c_len),
+                }
+            };
             if got != answer || lent != want.each_ref().map(|bytes| guarded(bytes)) {
                 differs(&format!("{kind} pair {i}"), side, "the model");
             }

@@ -12,21 +12,24 @@
 
 typedef uint32_t Call(uint8_t *, size_t, uint8_t *, size_t, uint32_t, uint32_t, uint8_t *, size_t);
 Call limit_run, limit_block, limit_sse2;
-static const struct { const char *name; Call *call; } SIDES[] = {
-    {"ours", overlap_call}, {"c-run", limit_run}, {"c-block", limit_block}, {"sse2", limit_sse2},
+static const struct { const char *name; Call *call; } SIDES[] = { /* ours takes a cap too: overlap_call itself */
+    {"ours", NULL}, {"c-run", limit_run}, {"c-block", limit_block}, {"sse2", limit_sse2},
 };
 
 enum { ROOM = 1 << 21, MOST = 1000, SIDE_COUNT = sizeof SIDES / sizeof *SIDES };
 static uint8_t bytes[ROOM];
 struct pairs { uint8_t *work; size_t (*at)[4], n; }; /* of each: where the first is, its length, the second's */
 
-/* The part that is counted, as in bench.rs: one call on every pair. Answers how many overlap. */
+/* The part that is counted, as in bench.rs: one call on every pair, ours with the cap that the others have. Answers how
+   many overlap. */
 static __attribute__((noinline)) uint64_t timed_pairs(Call *call, const struct pairs *p, uint32_t agreement,
                                                       uint32_t disagreement, uint8_t *counts) {
     uint64_t overlap = 0;
-    for (size_t i = 0; i < p->n; i++)
-        overlap += call(p->work + p->at[i][0], p->at[i][1], p->work + p->at[i][2], p->at[i][3],
-                        agreement, disagreement, counts, 32);
+    for (size_t i = 0; i < p->n; i++) {
+        const size_t *at = p->at[i];
+        overlap += call ? call(p->work + at[0], at[1], p->work + at[2], at[3], agreement, disagreement, counts, 32)
+                        : overlap_call(p->work + at[0], at[1], p->work + at[2], at[3], agreement, disagreement, OVERLAP_CAP_MAX, counts, 32);
+    }
     return overlap;
 }
 

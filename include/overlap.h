@@ -1,15 +1,20 @@
 /*
  * overlap.h: the overlap-consensus step on a pair of BAM records, and on a filed group of them.
  *
+ * VERSION 2: THE INTERFACE CHANGED. overlap_call takes a cap, behind the two strategies. A host that was written for
+ * version 1 has to pass OVERLAP_CAP_MAX there, which gives the results of before, and to be compiled anew with this
+ * header. An object that was compiled for version 1 and makes this call doesn't link: the archive has the call under the
+ * name overlap_call_2, and none of the name overlap_call. The other three calls are those of version 1.
+ *
  * overlap_call takes the two records of a read pair. At each reference position where both have
- * a base it compares the two, writes the bases and qualities that the strategies give into both
- * records, in place, and counts what it did.
+ * a base it compares the two, writes the bases and qualities that the strategies and the cap give
+ * into both records, in place, and counts what it did.
  *
  * overlap_reason_call says why two records don't overlap, by one of five reasons: one of them is unmapped, say, or
  * there is a gap between them. It only reads.
  *
- * overlap_filed_call does as overlap_call for every pair of a filed group: framed records and a trailer that
- * says whether they were corrected. Given a group that was, it says so and writes nothing, so a job that
+ * overlap_filed_call does as overlap_call with the cap 93 for every pair of a filed group: framed records and a trailer
+ * that says whether they were corrected. Given a group that was, it says so and writes nothing, so a job that
  * is sent again does no harm. overlap_trailer_call makes the trailer of a group that is to be filed.
  *
  * Link with liboverlap_c.a (`rt staticlib overlap_c` writes target/staticlib/liboverlap_c.a, x86-64 code; for trials on
@@ -26,8 +31,13 @@ extern "C" {
 #endif
 
 /* The version of this interface. It moves when the parameters of a call or one of the two sizes change,
-   so a host can refuse to be compiled with another: #if OVERLAP_VERSION != 1, #error, #endif. */
-#define OVERLAP_VERSION 1
+   so a host can refuse to be compiled with another: #if OVERLAP_VERSION != 2, #error, #endif. */
+#define OVERLAP_VERSION 2
+
+/* The name of the call in the archive. It has the version in it since which the parameters are these, so that the linker
+   refuses an object that was compiled for others. A host without this header, as one in Rust or one that looks the
+   call up by its name, says overlap_call_2 itself. */
+#define overlap_call overlap_call_2
 
 /* How many bytes the counts take, and the trailer of a filed group. */
 #define OVERLAP_COUNTS_SIZE 32
@@ -48,6 +58,10 @@ extern "C" {
 #define OVERLAP_DISAGREE_MASK_BOTH 1
 #define OVERLAP_DISAGREE_MASK_LOWER_QUAL 2
 
+/* The least cap and the largest, which is where the scale of qualities ends in a SAM file; told below. */
+#define OVERLAP_CAP_MIN 2
+#define OVERLAP_CAP_MAX 93
+
 /* Why two records don't overlap: answers of overlap_reason_call, told there. */
 #define OVERLAP_REASON_UNMAPPED 1
 #define OVERLAP_REASON_REFERENCES_DIFFER 2
@@ -61,12 +75,18 @@ extern "C" {
  *   first, second   Two BAM records, each from its reference id on, without the size that stands
  *                   before a record in a file.
  *   agreement       What to do where the bases agree, OVERLAP_AGREE_...: 0 CONSENSUS, both get the sum
- *                   of the qualities, at most 93; 1 MAX_QUAL, both get the larger quality;
+ *                   of the qualities, at most the cap; 1 MAX_QUAL, both get the larger quality;
  *                   2 PASS_THROUGH, nothing.
  *   disagreement    What to do where they disagree, OVERLAP_DISAGREE_...: 0 CONSENSUS, both get the
  *                   better base, with the difference of the qualities, at least 2 (equal qualities:
  *                   both become N with 2); 1 MASK_BOTH, both become N with 2; 2 MASK_LOWER_QUAL, the
  *                   one of lower quality becomes N with 2 (equal qualities: both).
+ *   cap             The most that agreement gives under CONSENSUS: OVERLAP_CAP_MIN, 2, to OVERLAP_CAP_MAX,
+ *                   93. It is where the sequencer's scale of qualities stops, as at 40; else pass 93.
+ *                   A quality over the cap comes down to it there, and nowhere else: MAX_QUAL and
+ *                   PASS_THROUGH go by no cap, and nor does any disagreement. At the cap 40, 30 and 20
+ *                   that agree become 40, and so do 60 and 60; 255 and 30 that disagree become 225. A cap
+ *                   outside of its range is refused under every strategy.
  *   counts          OVERLAP_COUNTS_SIZE, 32 bytes: four 64-bit numbers, each with its least byte first:
  *                     at 0 overlapping, at 8 agreeing, at 16 disagreeing, at 24 corrected.
  *                   The call adds to what stands there, so begin with 32 zero bytes. The largest
@@ -101,13 +121,14 @@ extern "C" {
  *           9      1009        one of the counts is above 18446744073692774399
  *          10      1010        a strategy number is not 0, 1 or 2
  *          15      1015        counts_len is not 32
+ *          22      1022        the cap is under 2 or over 93
  *
  *          6, an operation of length 0, is withdrawn: no answer carries it any more. Such an operation
  *          counts nothing and places no base.
  *
  * Order of judgement. The first that applies is the answer:
  *
- *   1. 15, then 10, then 9;
+ *   1. 15, then 10, then 22, then 9;
  *   2. 1 to 4 in the first record, then 1 to 4 in the second;
  *   3. either unmapped, then ids that differ, then a negative position: 0;
  *   4. 5, 7 and 8 in the first record, then in the second;
@@ -134,12 +155,12 @@ extern "C" {
  */
 uint32_t overlap_call(uint8_t *first, size_t first_len,
                       uint8_t *second, size_t second_len,
-                      uint32_t agreement, uint32_t disagreement,
+                      uint32_t agreement, uint32_t disagreement, uint32_t cap,
                       uint8_t *counts, size_t counts_len);
 
 /*
  * Why there is no overlap. It judges two records as overlap_call does, and where they don't overlap it
- * says which of five reasons that has. It takes no strategies and no counts, so 9, 10 and 15 can't come.
+ * says which of five reasons that has. It takes no strategies, no cap and no counts: 9, 10, 15 and 22 can't come.
  *
  *   first, second   Two BAM records, as for overlap_call. They are only read.
  *
@@ -166,9 +187,9 @@ uint32_t overlap_call(uint8_t *first, size_t first_len,
  *   3. numbers 5, 7 and 8 in the first record, then in the second: refused;
  *   4. either without reference length: 4; then no shared position: 5. Else: 0.
  *
- * Beside overlap_call. For every two records, and whatever the strategies and counts, unless overlap_call
- * answers 1009, 1010 or 1015: it answers 1 exactly when this call answers 0; it answers 0 exactly when this
- * call answers 1 to 5; and else it answers this call's answer % 10000. That is proved.
+ * Beside overlap_call. For every two records, and whatever the strategies, the cap and the counts, unless
+ * overlap_call answers 1009, 1010, 1015 or 1022: it answers 1 exactly when this call answers 0; it answers 0
+ * exactly when this call answers 1 to 5; and else it answers this call's answer % 10000. That is proved.
  *
  * What is written: nothing, whatever the answer. So the call may be made before overlap_call or after it,
  * on the records that were corrected, and answers the same, which is proved too: overlap_call writes none of
@@ -203,6 +224,9 @@ uint32_t overlap_reason_call(const uint8_t *first, size_t first_len,
  *
  * Mates are found by name: a record with flag 64 is a first, else one with flag 128 a last, and none
  * with flag 256 or 2048; of two with one name and place the later one counts.
+ *
+ * Each pair is treated as by overlap_call with the cap OVERLAP_CAP_MAX, 93: a filed group has no place for another. For
+ * a sequencer whose scale stops lower, make overlap_call on each pair.
  *
  * Answer
  *

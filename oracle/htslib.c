@@ -223,7 +223,7 @@ static void rule(bam1_t *x, bam1_t *y, const uint32_t *ways, uint32_t *answer, u
         uint8_t *u = bam_get_qual(x) + i, *v = bam_get_qual(y) + j;
         if (seq_nt16_str[p] == 'N' || seq_nt16_str[q] == 'N') continue;
         struct called a = { p, *u }, b = { q, *v };
-        unsigned corrected = treat(&a, &b, ways[0], ways[1]);
+        unsigned corrected = treat(&a, &b, (struct ways){ ways[0], ways[1], OVERLAP_CAP_MAX });
         bam_set_seqi(bam_get_seq(x), i, a.code), bam_set_seqi(bam_get_seq(y), j, b.code);
         *u = (uint8_t)a.quality, *v = (uint8_t)b.quality;
         grown[0]++, grown[p == q ? 1 : 2]++, grown[3] += corrected;
@@ -267,7 +267,7 @@ static Pair *called(long n, enum set set) {
         }
         p->reason = overlap_reason_call(p->rec[0].at, p->rec[0].len, p->rec[1].at, p->rec[1].len);
         p->answer = overlap_call(p->after[0].at, p->after[0].len, p->after[1].at, p->after[1].len,
-                                 p->ways[0], p->ways[1], counts, sizeof counts);
+                                 p->ways[0], p->ways[1], OVERLAP_CAP_MAX, counts, sizeof counts);
         if (overlap_reason_call(p->after[0].at, p->after[0].len, p->after[1].at, p->after[1].len) != p->reason)
             fail(p - pairs, "the reason is another after the call");
         for (int k = 31; k >= 0; k--) p->grown[k / 8] = p->grown[k / 8] << 8 | counts[k];

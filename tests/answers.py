@@ -45,12 +45,12 @@ def given():
             yield from ((call, number, place, f', record with index {place}') for place in range(256))
         yield call, 12, 256, ', record with index 256'
         yield from ((call, number, 0, '') for number in of_none)
-    yield from (('pair', number, 0, '') for number in (9, 10, 15))
+    yield from (('pair', number, 0, '') for number in (9, 10, 15, 22))
 
 
 def given_by_reason():
     """Every refusal of overlap_reason_call: its code, its number, and the words for record and operation. They are those
-    for a pair, less 9, 10 and 15; number 5 has the operation's index in it."""
+    for a pair, less 9, 10, 15 and 22; number 5 has the operation's index in it."""
     for call, number, place, record in given():
         if call == 'pair' and place > 0:
             for index in range(OPERATIONS if number == 5 else 1):
@@ -93,6 +93,7 @@ def check_sources():
     of_pair = {1000 + 100 * place + number for call, number, place, _ in given() if call == 'pair'}
     check(declared == of_pair, f'include/overlap.h has for a pair {sorted(declared)}, and not {sorted(of_pair)}')
     check_reasons()
+    check_caps()
     room, = re.findall(r'#define OVERLAP_TEXT_SIZE (\d+)', read('hosts/c/overlap_text.h'))
     longest = max(len(text) for _, text in texts())
     check(longest < int(room), f'the longest text has {longest} bytes, and the room {room}')
@@ -112,6 +113,16 @@ def check_reasons():
     check(variants == names, f'hosts/rust has the reasons {variants}')
     check(proved == list(zip(names, '12345')), f'crates/pair_judgement has the reasons {proved}')
     check(table == [n for n, _ in defined] == list(REASONS), f'docs/REFUSALS.md has the reasons {list(REASONS)}, the table {table}')
+
+
+def check_caps():
+    """The least cap and the largest: in the words of refusal 22, in the header, in hosts/rust and in crates/strategy."""
+    words = re.fullmatch(r'cap outside of (\d+) to (\d+)', WORDS[22]).groups()
+    for path, bound in (('include/overlap.h', r'(?m)^#define OVERLAP_CAP_M(?:IN|AX) (\d+)$'),
+                        ('hosts/rust/overlap.rs', r'(?m)^pub const CAP_M(?:IN|AX): u32 = (\d+);$'),
+                        ('crates/strategy/src/lib.rt', r'(?m)^pub const (?:LEAST|FULL)_CAP: u8 = (\d+);$')):
+        found = tuple(re.findall(bound, read(path)))
+        check(found == words, f'{path} has the caps {found}, and docs/REFUSALS.md {words}')
 
 
 def check_program(program):

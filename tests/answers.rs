@@ -1,6 +1,7 @@
 //! Says answers in words, as tests/c/answers.c does, with the wrapper of hosts/rust. Where its types can hold an
 //! answer, they have to print the same text.
-use overlap::{Answer, Call, Fault, FiledAnswer, Reason, Refusal, Why, reason, text, words};
+use overlap::{Agreement, Answer, CAP_MAX, CAP_MIN, Call, Counts, Disagreement, Fault, FiledAnswer, Reason, Refusal, Why};
+use overlap::{call, reason, text, words};
 use std::io::{self, BufRead};
 
 fn main() {
@@ -13,6 +14,7 @@ fn main() {
         assert_eq!(answer.to_string(), text(Call::Pair, answer.code()));
     }
     reasons();
+    caps();
 }
 
 fn said(what: &str, n: u32) -> String {
@@ -79,6 +81,19 @@ fn reasons() {
     why(&plain, &record(0, &[25]), Why::Second { fault: OperationCode, operation: Some(0) });
 }
 
+/// Caps as the archive takes them, in the type: two qualities of 60 become the cap, and nothing is written where it is none.
+fn caps() {
+    let mut one = record(1, &[16]);
+    *one.last_mut().unwrap() = 60;
+    for cap in [0, CAP_MIN - 1, CAP_MIN, 40, CAP_MAX, CAP_MAX + 1, u32::MAX] {
+        let (mut first, mut second, mut counts) = (one.clone(), one.clone(), Counts::default());
+        let answer = call(&mut first, &mut second, Agreement::Consensus, Disagreement::Consensus, cap, &mut counts);
+        let (expected, quality) = if (2..=93).contains(&cap) { (Answer::Overlap, cap as u8) } else { (Answer::CapOutside, 60) };
+        assert_eq!((answer, first.last(), &second), (expected, Some(&quality), &first), "cap {cap}");
+        assert_eq!(counts.corrected, u64::from(quality != 60), "cap {cap}");
+    }
+}
+
 /// A record of so many bases and these operations; 16 is 1M, and 25 has the code 9.
 fn record(bases: u8, operations: &[u32]) -> Vec<u8> {
     let mut r = vec![0; 32];
@@ -95,6 +110,6 @@ const FAULTS: [Fault; 7] = {
 
 /// Every answer for a pair.
 fn answers() -> Vec<Answer> {
-    let plain = [Answer::NoOverlap, Answer::Overlap, Answer::CountTooLarge];
+    let plain = [Answer::NoOverlap, Answer::Overlap, Answer::CountTooLarge, Answer::CapOutside];
     plain.into_iter().chain(FAULTS.map(Answer::First)).chain(FAULTS.map(Answer::Second)).collect()
 }

@@ -1,7 +1,7 @@
 #!/bin/sh
 # The hosts in C and Rust over the archive, and what they are made of: what they print against the text stored beside
 # them, the headers from C++, the buffers kept apart, the answers in words, the commands of hosts/README.md;
-# then example/show.py and the installation.
+# then hosts of version 1, example/show.py and the installation.
 set -eu
 unset CDPATH
 . "$(dirname "$0")/../scripts/settings.sh"
@@ -66,11 +66,12 @@ refused_by_rustc() { # ERROR EXPRESSION
 test_borrows() {
     ways='Agreement::Consensus, Disagreement::Consensus'
     rust_with 'correct_filed(&a, &mut b, &mut counts)' || wrong "$(cat "$out/said")"
-    rust_with "call(&mut a, &mut b, $ways, &mut counts)" || wrong "$(cat "$out/said")"
+    rust_with "call(&mut a, &mut b, $ways, CAP_MAX, &mut counts)" || wrong "$(cat "$out/said")"
     rust_with 'reason(&a, &a)' || wrong "$(cat "$out/said")"
     refused_by_rustc E0502 'correct_filed(&a, &mut a, &mut counts)'
-    refused_by_rustc E0499 "call(&mut a, &mut a, $ways, &mut counts)"
-    echo "a Rust host with one buffer in two places doesn't compile, but for a reason, where both are only read"
+    refused_by_rustc E0499 "call(&mut a, &mut a, $ways, CAP_MAX, &mut counts)"
+    refused_by_rustc E0061 "call(&mut a, &mut b, $ways, &mut counts)"
+    echo "a Rust host with one buffer in two places doesn't compile, but for a reason, where both are only read; nor does one without a cap"
 }
 
 # The answers in words, and that the test finds a word that is another, and an index that no answer has.
@@ -96,7 +97,8 @@ test_cpp() {
     said=$("$out/host-cpp")
     [ "$said" = "no overlap
 no overlap: a read has no reference length
-refused: record under 32 bytes (number 1, second record)" ] || wrong "the host in C++ prints $said"
+refused: record under 32 bytes (number 1, second record)
+refused: cap outside of 2 to 93 (number 22)" ] || wrong "the host in C++ prints $said"
     echo "a host in C++ compiles and runs"
 }
 
@@ -127,5 +129,6 @@ else
     test_answers
 fi
 test_readme
+sh "$root/tests/version.sh"
 python3 -B "$root/tests/show.py"
 sh "$root/tests/install.sh"

@@ -1,7 +1,7 @@
 #!/bin/sh
 # Looks at what the archive exports. Installs into a folder of its own, and there compiles the C host as a stranger
-# would: by pkg-config over the archive, and over a shared object made of it. Elsewhere than on x86-64 the installation
-# has to be refused.
+# would: by pkg-config over the archive, and over a shared object made of it, over which a host of version 1 must not run.
+# Elsewhere than on x86-64 the installation has to be refused.
 set -eu
 unset CDPATH
 . "$(dirname "$0")/../scripts/settings.sh"
@@ -9,10 +9,10 @@ out=$root/target/install
 rm -rf "$out"
 mkdir -p "$out/far"
 
-# The calls that overlap.h declares, and no other name that could meet one of a host's.
+# The calls that overlap.h declares, as a compiler reads it, and no other name that could meet one of a host's.
 need "$ARCHIVE" "rt staticlib overlap_c"
 if command -v nm >/dev/null; then
-    declared=$(sed -n 's/^uint32_t \(overlap_[a-z_]*\)(.*/\1/p' "$root/include/overlap.h" | LC_ALL=C sort)
+    declared=$("$CC" -E "$root/include/overlap.h" | sed -n 's/^uint32_t \(overlap_[a-z0-9_]*\)(.*/\1/p' | LC_ALL=C sort)
     exported=$(nm -g --defined-only "$ARCHIVE" | sed -n 's/^[0-9a-f]* [A-Z] //p' | LC_ALL=C sort)
     [ "$declared" = "$exported" ] || { printf 'overlap.h declares\n%s\nand the archive exports\n%s\n' "$declared" "$exported"; exit 1; }
     echo "the archive exports the $(echo "$declared" | wc -l) calls that overlap.h declares, and nothing else"
@@ -56,3 +56,12 @@ echo "the host compiled with the installed archive prints what is stored"
 LD_LIBRARY_PATH=$out/usr/lib "$out/host-shared" | cmp - "$root/hosts/c/expected.txt"
 if "$out/host-shared" >/dev/null 2>&1; then echo "the host doesn't use the shared object"; exit 1; fi
 echo "the host over the shared object prints what is stored"
+
+# A host of version 1, over a shared object that has its call, and then over this one.
+mkdir "$out/old"
+echo 'unsigned overlap_call(void) { return 0; }' | "$CC" -x c -shared -fPIC -o "$out/old/liboverlap.so" -
+"$CC" -std=c11 "$root/tests/c/version_1.c" -L "$out/old" -loverlap -o "$out/host-1"
+LD_LIBRARY_PATH=$out/old "$out/host-1"
+if LD_LIBRARY_PATH=$out/usr/lib "$out/host-1" 2>"$out/said"; then echo "a host of version 1 runs over the shared object"; exit 1; fi
+grep -q 'undefined symbol: overlap_call$' "$out/said" || { echo "a host of version 1 ends for another reason: $(cat "$out/said")"; exit 1; }
+echo "a host of version 1 doesn't run over the shared object, as it has no overlap_call"

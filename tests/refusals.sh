@@ -20,18 +20,18 @@ verdict() { # EXPECTED GOT
     printf 'in the box under "%s"\n expected: %s\n got:      %s\n' "$title" "$1" "$2"
 }
 start() {
-    kind='' agreement='' disagreement='' out_len='' counts='' first='' second='' group='' input='' answer='' output=''
+    kind='' agreement='' disagreement='' cap='' out_len='' counts='' first='' second='' group='' input='' answer='' output=''
     first_after='' second_after='' out_after='' counts_after=''
 }
 run_pair() {
     want="answer $answer "
     [ -z "$first_after" ] || want="${want}first $(plain "$first_after") second $(plain "$second_after") counts $(plain "$counts_after") "
-    verdict "$want" "$("$try" pair "$agreement" "$disagreement" "$counts" "$first" "$second" | tr '\n' ' ')"
+    verdict "$want" "$("$try" pair "$agreement" "$disagreement" "$cap" "$counts" "$first" "$second" | tr '\n' ' ')"
 }
 run_reason() { # the call on the pair has to say the same, less the reason and the operation's index
     verdict "answer $answer" "$("$try" reason "$first" "$second")"
     case $answer in 0) of_pair=1 ;; [1-5]) of_pair=0 ;; *) of_pair=$((answer % 10000)) ;; esac
-    verdict "answer $of_pair" "$("$try" pair 0 0 '00*32' "$first" "$second" | head -n 1)"
+    verdict "answer $of_pair" "$("$try" pair 0 0 93 '00*32' "$first" "$second" | head -n 1)"
 }
 run_filed() { # of a corrected group, the box may leave out what becomes of the output and of the counts
     want="answer $answer " no_out='' no_counts=''
@@ -68,9 +68,9 @@ while IFS= read -r line; do
     no,'### '*) title=${line#'### '} ;;
     no,'```case') inside=yes; start ;;
     yes,'```') inside=no; finish ;;
-    yes,'pair '*)
-        kind=pair counts=${line#*counts } ways=${line#pair }
-        ways=${ways%% counts*} agreement=${ways%% *} disagreement=${ways#* } ;;
+    yes,'pair '*' cap '*' counts '*)
+        kind=pair counts=${line#* counts } ways=${line#pair } cap=${line#* cap }
+        cap=${cap%% counts *} ways=${ways%% cap *} agreement=${ways%% *} disagreement=${ways#* } ;;
     yes,reason) kind=reason ;;
     yes,'filed '*) kind=filed; counts=${line#*counts }; out_len=${line#filed }; out_len=${out_len%% counts*} ;;
     yes,'group '*) group=${line#group } ;;

@@ -1,10 +1,10 @@
 /* try.c: tries one input that is written in hexadecimal.
  *
- *   try pair AGREEMENT DISAGREEMENT COUNTS FIRST SECOND    calls the step on a pair
- *   try reason FIRST SECOND                                asks why a pair doesn't overlap
- *   try filed OUT_LEN COUNTS FILED                         calls the step on a filed group
- *   try trailer AGREEMENT DISAGREEMENT FRAMES              writes the raw trailer of framed records
- *   try bytes TEXT                                         writes the bytes, as input for a program
+ *   try pair AGREEMENT DISAGREEMENT CAP COUNTS FIRST SECOND   calls the step on a pair
+ *   try reason FIRST SECOND                                   asks why a pair doesn't overlap
+ *   try filed OUT_LEN COUNTS FILED                            calls the step on a filed group
+ *   try trailer AGREEMENT DISAGREEMENT FRAMES                 writes the raw trailer of framed records
+ *   try bytes TEXT                                            writes the bytes, as input for a program
  *
  * Two digits make a byte and blanks don't count; 00*32 is 32 such bytes, (2A 00*3)*2 is a part
  * taken twice. `pair` prints the answer and, where a byte changed, both records and the counts;
@@ -63,7 +63,7 @@ static void print(const char *what, const Bytes *b) {
     printf("\n");
 }
 
-/* A number in decimal; one that doesn't fit 32 bits is no strategy, and stays none. */
+/* A number in decimal; one that doesn't fit 32 bits is no strategy and no cap, and stays none. */
 static uint32_t number(const char *text) {
     unsigned long n = strtoul(text, NULL, 10);
     return n > UINT32_MAX ? UINT32_MAX : (uint32_t)n;
@@ -76,9 +76,9 @@ static int same(const Bytes *a, const Bytes *b) {
 static int try_pair(char **args) {
     Bytes *after[3], *before[3];
     int unchanged = 1;
-    for (int i = 0; i < 3; i++) after[i] = bytes(args[2 + i]), before[i] = bytes(args[2 + i]);
+    for (int i = 0; i < 3; i++) after[i] = bytes(args[3 + i]), before[i] = bytes(args[3 + i]);
     uint32_t answer = overlap_call(after[1]->at, after[1]->len, after[2]->at, after[2]->len,
-                                   number(args[0]), number(args[1]), after[0]->at, after[0]->len);
+                                   number(args[0]), number(args[1]), number(args[2]), after[0]->at, after[0]->len);
     for (int i = 0; i < 3; i++) unchanged &= same(before[i], after[i]);
     printf("answer %u\n", answer);
     if (!unchanged) print("first", after[1]), print("second", after[2]), print("counts", after[0]);
@@ -120,11 +120,11 @@ static int try_bytes(char **args) {
 
 int main(int argc, char **argv) {
     static const struct { const char *name; int args, (*run)(char **); } COMMANDS[] = {
-        { "pair", 5, try_pair }, { "reason", 2, try_reason }, { "filed", 3, try_filed }, { "trailer", 3, try_trailer },
+        { "pair", 6, try_pair }, { "reason", 2, try_reason }, { "filed", 3, try_filed }, { "trailer", 3, try_trailer },
         { "bytes", 1, try_bytes } };
     for (size_t i = 0; i < sizeof COMMANDS / sizeof COMMANDS[0]; i++)
         if (argc == 2 + COMMANDS[i].args && strcmp(argv[1], COMMANDS[i].name) == 0) return COMMANDS[i].run(argv + 2);
-    fail("try", "pair AGREEMENT DISAGREEMENT COUNTS FIRST SECOND, reason FIRST SECOND, filed OUT_LEN COUNTS FILED, "
+    fail("try", "pair AGREEMENT DISAGREEMENT CAP COUNTS FIRST SECOND, reason FIRST SECOND, filed OUT_LEN COUNTS FILED, "
                 "trailer AGREEMENT DISAGREEMENT FRAMES, or bytes TEXT");
     return 2;
 }

@@ -25,9 +25,9 @@
 #define CALLS(ROW)                                                                                                \
     ROW(overlap_call,                                                                                             \
         (uint8_t *first, size_t first_len, uint8_t *second, size_t second_len,                                    \
-         uint32_t agreement, uint32_t disagreement, uint8_t *counts, size_t counts_len),                          \
-        (agreement, disagreement), (CHANGED(first), CHANGED(second), CHANGED(counts)),                            \
-        (B(0), B(1), n[0], n[1], B(2)))                                                                           \
+         uint32_t agreement, uint32_t disagreement, uint32_t cap, uint8_t *counts, size_t counts_len),            \
+        (agreement, disagreement, cap), (CHANGED(first), CHANGED(second), CHANGED(counts)),                       \
+        (B(0), B(1), n[0], n[1], n[2], B(2)))                                                                     \
     ROW(overlap_reason_call,                                                                                      \
         (const uint8_t *first, size_t first_len, const uint8_t *second, size_t second_len),                       \
         (0), (READ(first), READ(second)),                                                                         \

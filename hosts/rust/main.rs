@@ -1,6 +1,7 @@
-//! A Rust host: calls the step on one pair and prints what came out, and why the pair moved apart doesn't overlap;
-//! then files the same pair, has it corrected, and sends it again.
-use overlap::{Agreement, Counts, Disagreement, Refusal, call, correct_filed, reason, trailer};
+//! A Rust host: calls the step on one pair, with the cap of a sequencer whose scale stops at 40 and with the largest cap,
+//! and prints what came out, and why the pair moved apart doesn't overlap; then files the same pair, has it corrected, and
+//! sends it again.
+use overlap::{Agreement, CAP_MAX, Counts, Disagreement, Refusal, call, correct_filed, reason, trailer};
 
 fn main() -> Result<(), Refusal> {
     // Four bases at positions 10 to 13 and four at 11 to 14, counted from 1.
@@ -13,8 +14,11 @@ fn main() -> Result<(), Refusal> {
     filed.extend(trailer);
 
     show("before", &first, &second);
-    let answer = call(&mut first, &mut second, Agreement::Consensus, Disagreement::Consensus, &mut counts);
-    show("after ", &first, &second);
+    let (mut first_40, mut second_40) = (first.clone(), second.clone());
+    call(&mut first_40, &mut second_40, Agreement::Consensus, Disagreement::Consensus, 40, &mut Counts::default());
+    show("cap 40", &first_40, &second_40);
+    let answer = call(&mut first, &mut second, Agreement::Consensus, Disagreement::Consensus, CAP_MAX, &mut counts);
+    show("cap 93", &first, &second);
     println!("{answer}, {counts:?}");
 
     let apart = record(50, 129, [0x24, 0x11], [20, 30, 10, 40]);

@@ -1,9 +1,9 @@
-//! The exported calls for Rust programs. include/overlap.h says what they do to the bytes.
+//! The exported calls for Rust programs, version 2. include/overlap.h says what they do to the bytes.
 //!
 //! Nothing is checked here that the calls check themselves. What the types rule out before a call:
 //! what is written is borrowed mutably, so it can't overlap another slice in memory; strategies are
-//! enums and counts are always 32 bytes, so refusals 10 and 15 can't come. `reason` only reads, and
-//! may be passed one record twice.
+//! enums and counts are always 32 bytes, so refusals 10 and 15 can't come. A cap outside of `CAP_MIN`
+//! to `CAP_MAX` is refused by the call. `reason` only reads, and may be passed one record twice.
 //!
 //! So the fault that a host in C has to assert against can't be written here. One buffer in two places,
 //! as in `correct_filed(&group, &mut group, ..)` or `call(&mut record, &mut record, ..)`, doesn't compile:
@@ -18,6 +18,8 @@ pub use text::{Call, text, words};
 /// The calls as the archive has them.
 pub mod raw {
     unsafe extern "C" {
+        /// Its name in the archive has the version in it since which the parameters are these: the linker refuses others.
+        #[link_name = "overlap_call_2"]
         pub fn overlap_call(
             first: *mut u8,
             first_len: usize,
@@ -25,6 +27,7 @@ pub mod raw {
             second_len: usize,
             agreement: u32,
             disagreement: u32,
+            cap: u32,
             counts: *mut u8,
             counts_len: usize,
         ) -> u32;
@@ -72,6 +75,11 @@ pub enum Disagreement {
     MaskLowerQual = 2,
 }
 
+/// The least cap and the largest: the most that two qualities add up to where bases agree under `Agreement::Consensus`.
+/// It is where the sequencer's scale of qualities stops, as at 40; else pass `CAP_MAX`.
+pub const CAP_MIN: u32 = 2;
+pub const CAP_MAX: u32 = 93;
+
 /// The four counts, added to by each call.
 #[derive(Clone, Copy, Debug, Default, PartialEq, Eq)]
 pub struct Counts {
@@ -106,6 +114,8 @@ pub enum Answer {
     Second(Fault),
     /// Refused (number 9) because a count leaves too little room; nothing was written.
     CountTooLarge,
+    /// Refused (number 22) because the cap isn't from `CAP_MIN` to `CAP_MAX`; nothing was written.
+    CapOutside,
 }
 
 /// Calls the step on one pair.
@@ -114,6 +124,7 @@ pub fn call(
     second: &mut [u8],
     agreement: Agreement,
     disagreement: Disagreement,
+    cap: u32,
     counts: &mut Counts,
 ) -> Answer {
     let mut bytes = counts.to_bytes();
@@ -126,6 +137,7 @@ pub fn call(
             second.len(),
             agreement as u32,
             disagreement as u32,
+            cap,
             bytes.as_mut_ptr(),
             bytes.len(),
         )
@@ -135,6 +147,7 @@ pub fn call(
         0 => Answer::NoOverlap,
         1 => Answer::Overlap,
         1009 => Answer::CountTooLarge,
+        1022 => Answer::CapOutside,
         1101..=1108 => Answer::First(Fault::of(code - 1100)),
         1201..=1208 => Answer::Second(Fault::of(code - 1200)),
         _ => unreachable!("overlap_call answers no {code} here"),
@@ -194,8 +207,8 @@ pub enum FiledAnswer {
     Refused(Refusal),
 }
 
-/// Corrects a raw filed group into `out`, which has to be as long. A group can't be corrected in place, and
-/// the borrows see to it: `filed` itself can't be lent as `out`.
+/// Corrects a raw filed group into `out`, which has to be as long. The cap is `CAP_MAX`: a filed group has no other. A group
+/// can't be corrected in place, and the borrows see to it: `filed` itself can't be lent as `out`.
 pub fn correct_filed(filed: &[u8], out: &mut [u8], counts: &mut Counts) -> FiledAnswer {
     let mut bytes = counts.to_bytes();
     // SAFETY: each pointer comes with the length of its own live borrow, exclusive where it is written.
@@ -241,6 +254,7 @@ impl Answer {
             Answer::NoOverlap => 0,
             Answer::Overlap => 1,
             Answer::CountTooLarge => 1009,
+            Answer::CapOutside => 1022,
             Answer::First(fault) => 1100 + fault as u32,
             Answer::Second(fault) => 1200 + fault as u32,
         }

@@ -13,24 +13,40 @@
 
 enum { TURNS = 500 };
 
-/* Calls on records that are too short, with n bytes of counts: 32 of them are right, and then the first record is refused.
-   And asks why a record of n bytes, which all who call pass at once, doesn't overlap itself: 32 of them are a record. */
-static void *work(void *n) {
+/* What each of two who call at once passes: the length of the counts, and a cap. */
+struct own { size_t len; uint32_t cap; };
+static struct own right = {32, 40}, wrong = {31, 93};
+
+/* The quality that two bases of quality 30 get that agree, with this cap; 0 where the call answers anything but an overlap. */
+static uint8_t agreed(uint32_t cap) {
+    enum { LEN = 38, QUALITY = LEN - 1 };
+    static const uint8_t record[LEN] = {[12] = 1, [16] = 1, [32] = 0x10, [QUALITY] = 30};   /* 1M, and one base */
+    uint8_t first[LEN], second[LEN], counts[32] = {0};
+    memcpy(first, record, LEN);
+    memcpy(second, record, LEN);
+    uint32_t answer = overlap_call(first, LEN, second, LEN, 0, 0, cap, counts, 32);
+    return answer == 1 && memcmp(first, second, LEN) == 0 ? first[QUALITY] : 0;
+}
+
+/* Calls on records that are too short: with 32 bytes of counts, which are right, the first record is refused. Asks why a
+   record of as many bytes, which all who call pass at once, doesn't overlap itself: 32 of them are a record. And calls with
+   a cap that is below twice the quality or over it. */
+static void *work(void *of) {
     static const uint8_t record[32];
-    size_t counts_len = *(size_t *)n;
+    const struct own *own = of;
     for (int i = 0; i < TURNS; i++) {
         uint8_t first[8] = {0}, second[8] = {0}, counts[32] = {0};
-        uint32_t answer = overlap_call(first, 8, second, 8, 0, 0, counts, counts_len);
-        uint32_t reason = overlap_reason_call(record, counts_len, record, counts_len);
-        if (answer != (counts_len == 32 ? 1101 : 1015)) return "another's answer";
-        if (reason != (counts_len == 32 ? OVERLAP_REASON_NO_REFERENCE_LENGTH : 1101)) return "another's reason";
+        uint32_t answer = overlap_call(first, 8, second, 8, 0, 0, own->cap, counts, own->len);
+        uint32_t reason = overlap_reason_call(record, own->len, record, own->len);
+        if (answer != (own == &right ? 1101 : 1015)) return "another's answer";
+        if (reason != (own == &right ? OVERLAP_REASON_NO_REFERENCE_LENGTH : 1101)) return "another's reason";
+        if (agreed(own->cap) != (own == &right ? 40 : 60)) return "another's cap";
     }
     return NULL;
 }
 
 static int two_threads(void) {
     pthread_t other;
-    size_t right = 32, wrong = 31;
     void *here, *there = "";
     if (pthread_create(&other, NULL, work, &right) != 0) return 1;
     here = work(&wrong);
@@ -39,7 +55,6 @@ static int two_threads(void) {
 }
 
 static int two_processes(void) {
-    size_t right = 32, wrong = 31;
     int ended = 1;
     pid_t child = fork();
     if (child == 0) _exit(work(&right) != NULL);
@@ -50,7 +65,7 @@ static int two_processes(void) {
 int main(int argc, char **argv) {
     uint8_t a[64] = {0}, b[64] = {0}, c[32] = {0};
     if (argc < 2) return two_threads() | two_processes();
-    if (strcmp(argv[1], "pair") == 0) overlap_call(a, 64, b, 64, 0, 0, c, 32);
+    if (strcmp(argv[1], "pair") == 0) overlap_call(a, 64, b, 64, 0, 0, OVERLAP_CAP_MAX, c, 32);
     else if (strcmp(argv[1], "reason") == 0) overlap_reason_call(a, 64, b, 64);
     else if (strcmp(argv[1], "filed") == 0) overlap_filed_call(a, 64, b, 64, c, 32);
     else if (strcmp(argv[1], "trailer") == 0) overlap_trailer_call(a, 64, 0, 0, b, 64);

@@ -2,8 +2,8 @@
 #include "overlap.h"
 
 uint32_t overlap_call(uint8_t *first, size_t first_len, uint8_t *second, size_t second_len,
-                      uint32_t agreement, uint32_t disagreement, uint8_t *counts, size_t counts_len) {
-    (void)second, (void)second_len, (void)agreement, (void)disagreement, (void)counts, (void)counts_len;
+                      uint32_t agreement, uint32_t disagreement, uint32_t cap, uint8_t *counts, size_t counts_len) {
+    (void)second, (void)second_len, (void)agreement, (void)disagreement, (void)cap, (void)counts, (void)counts_len;
     first[first_len] = 0;                                    /* writes beside a buffer */
     return 0;
 }

@@ -48,11 +48,11 @@ static size_t put_filed(unsigned records, size_t len, unsigned agreement, unsign
     return n + OVERLAP_TRAILER_SIZE;
 }
 
-/* A call to be made: which one, on how much of `filed`, by which strategies; and what came of it. */
+/* A call to be made: which one, on how much of `filed`, by which strategies and, on a pair, with which cap; and what came of it. */
 struct job {
     enum { PAIR, REASON, TRAILER, FILED } call;
     size_t len;
-    uint32_t agreement, disagreement, answer;
+    uint32_t agreement, disagreement, cap, answer;
     uintptr_t top;
 };
 
@@ -60,7 +60,7 @@ static void *make(void *of) {
     struct job *j = of;
     j->top = (uintptr_t)__builtin_frame_address(0);
     switch (j->call) {
-    case PAIR: j->answer = overlap_call(filed, j->len, out, j->len, j->agreement, j->disagreement, counts, sizeof counts); break;
+    case PAIR: j->answer = overlap_call(filed, j->len, out, j->len, j->agreement, j->disagreement, j->cap, counts, sizeof counts); break;
     case REASON: j->answer = overlap_reason_call(filed, j->len, out, j->len); break;
     case TRAILER: j->answer = overlap_trailer_call(filed, j->len, j->agreement, j->disagreement, out, OVERLAP_TRAILER_SIZE); break;
     case FILED: j->answer = overlap_filed_call(filed, j->len, out, sizeof out, counts, sizeof counts); break;
@@ -86,22 +86,24 @@ static size_t used_by(struct job *j, size_t size, uint32_t answer) {
 
 static size_t larger(size_t a, size_t b) { return a < b ? b : a; }
 
-/* Under every pair of strategies: a pair of records of this length. */
+/* Under every pair of strategies, with the least cap and with the largest: a pair of records of this length. */
 static size_t pairs(size_t len, size_t size) {
     size_t most = 0;
-    for (uint32_t k = 0; k < 18; k++) {
-        put_record(filed, len, 0, k / 9);
-        put_record(out, len, 1, k / 9);
-        most = larger(most, used_by(&(struct job){PAIR, len, k % 9 / 3, k % 3, 0, 0}, size, 1));
+    for (uint32_t k = 0; k < 36; k++) {
+        put_record(filed, len, 0, k / 9 % 2);
+        put_record(out, len, 1, k / 9 % 2);
+        struct job j = {PAIR, len, k % 9 / 3, k % 3, k < 18 ? OVERLAP_CAP_MAX : OVERLAP_CAP_MIN, 0, 0};
+        most = larger(most, used_by(&j, size, 1));
     }
     put_record(filed, len, 0, 0);
     put(filed + OPERATIONS, 4, 9);
-    return larger(most, used_by(&(struct job){PAIR, len, 0, 0, 0, 0}, size, 1105));
+    most = larger(most, used_by(&(struct job){PAIR, len, 0, 0, OVERLAP_CAP_MAX, 0, 0}, size, 1105));
+    return larger(most, used_by(&(struct job){PAIR, len, 0, 0, OVERLAP_CAP_MAX + 1, 0, 0}, size, 1022));
 }
 
 /* Why a pair of records of this length doesn't overlap: it does, is apart, has no reference length, and is refused. */
 static size_t reasons(size_t len, size_t size) {
-    struct job j = {REASON, len, 0, 0, 0, 0};
+    struct job j = {REASON, len, 0, 0, 0, 0, 0};
     size_t most = 0;
     for (int split = 0; split < 2; split++) {
         put_record(filed, len, 0, split);
@@ -122,11 +124,11 @@ static size_t groups(unsigned records, size_t len, size_t size) {
     size_t most = 0, n = 0;
     for (uint32_t k = 0; k < 9; k++) {
         n = put_filed(records, len, k / 3, k % 3);
-        most = larger(most, used_by(&(struct job){FILED, n, 0, 0, 0, 0}, size, 0));
+        most = larger(most, used_by(&(struct job){FILED, n, 0, 0, 0, 0, 0}, size, 0));
     }
-    most = larger(most, used_by(&(struct job){FILED, n - 1, 0, 0, 0, 0}, size, 1020));
+    most = larger(most, used_by(&(struct job){FILED, n - 1, 0, 0, 0, 0, 0}, size, 1020));
     memcpy(filed, out, n);
-    return larger(most, used_by(&(struct job){FILED, n, 0, 0, 0, 0}, size, 1));
+    return larger(most, used_by(&(struct job){FILED, n, 0, 0, 0, 0, 0}, size, 1));
 }
 
 static void say(const char *call, size_t used, size_t size) {
@@ -137,7 +139,7 @@ int main(void) {
     say("overlap_call", larger(pairs(400, OVERLAP_STACK), pairs(LONGEST, OVERLAP_STACK)), OVERLAP_STACK);
     say("overlap_reason_call", larger(reasons(400, OVERLAP_STACK), reasons(LONGEST, OVERLAP_STACK)), OVERLAP_STACK);
     size_t n = put_filed(MOST_RECORDS, 1024, 0, 0) - OVERLAP_TRAILER_SIZE;
-    say("overlap_trailer_call", used_by(&(struct job){TRAILER, n, 2, 2, 0, 0}, OVERLAP_STACK, 0), OVERLAP_STACK);
+    say("overlap_trailer_call", used_by(&(struct job){TRAILER, n, 2, 2, 0, 0, 0}, OVERLAP_STACK, 0), OVERLAP_STACK);
     say("overlap_filed_call, records of up to 1024 bytes",
         larger(groups(MOST_RECORDS, 1024, OVERLAP_FILED_STACK), groups(2, 400, OVERLAP_FILED_STACK)), OVERLAP_FILED_STACK);
     say("overlap_filed_call, records of any length",
