@@ -6,7 +6,7 @@
 # gate   (default) a fresh run of about a minute; SEED is the time unless given, and is printed
 # pairs  the part of it that needs the archive alone
 # groups the other part, which needs the program; the judge is as `pairs` built it
-# full   the same at length: 194 million pairs and 120,000 groups in six to twelve minutes
+# full   the same at length: 197 million pairs and 120,000 groups in six to fourteen minutes
 # lists  all lists of up to three operations of lengths 1 and 2 in both reads: 225 million pairs
 #
 # FOLDER is that of the published Rust (default ../shared/docs/src beside the repository). Where
@@ -49,6 +49,7 @@ if [ "$size" != groups ]; then
     "$judge" damaged "$seed" "$few"
     "$judge" extremes "$seed" "$few"
     "$judge" codes "$seed" $((few / 3))
+    "$judge" caps "$seed" "$few"
     "$judge" short 3 3 1 "$seed"
     "$judge" short 2 2 2 "$seed"
     "$judge" zeros 4 $mates "$seed"

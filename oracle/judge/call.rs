@@ -1,5 +1,5 @@
 //! The exported calls on a pair, on copies of a case that stand between guard bytes at any alignment.
-use crate::record::Case;
+use crate::record::{Case, Ways};
 use overlap::raw::{overlap_call, overlap_reason_call};
 use overlap::{Agreement, Answer, Counts, Disagreement, Fault, Reason, Why};
 
@@ -66,7 +66,8 @@ pub fn call(case: &Case, turn: u64) -> Result<(After, u32), &'static str> {
     // SAFETY: three buffers of their own, each with its length.
     let (answer, reason) = unsafe {
         let (a, b, c) = (first.pointer(), second.pointer(), counts.pointer());
-        let step = || overlap_call(a, first.len, b, second.len, case.agreement, case.disagreement, c, counts.len);
+        let Ways { agreement, disagreement, cap } = case.ways();
+        let step = || overlap_call(a, first.len, b, second.len, agreement, disagreement, cap, c, counts.len);
         let ask = || overlap_reason_call(a, first.len, b, second.len);
         if turn % 2 == 0 {
             let reason = ask();
@@ -89,10 +90,11 @@ pub fn wrapped(case: &Case) -> Option<After> {
     let disagreement = *[D::Consensus, D::MaskBoth, D::MaskLowerQual].get(case.disagreement as usize)?;
     let mut counts = Counts::from_bytes(case.counts[..].try_into().ok()?);
     let (mut first, mut second) = (case.first.clone(), case.second.clone());
-    let answer = match overlap::call(&mut first, &mut second, agreement, disagreement, &mut counts) {
+    let answer = match overlap::call(&mut first, &mut second, agreement, disagreement, case.cap, &mut counts) {
         Answer::NoOverlap => 0,
         Answer::Overlap => 1,
         Answer::CountTooLarge => 1009,
+        Answer::CapOutside => 1022,
         Answer::First(fault) => 1100 + number(fault),
         Answer::Second(fault) => 1200 + number(fault),
     };

@@ -141,7 +141,7 @@ fn refused() -> Vec<Known> {
 /// Does the Rust, which ended so and left these two records, do what is expected of it?
 fn does(case: &Case, ended: &Ended<(bool, [u64; 4])>, records: [&[u8]; 2], expected: &Does) -> bool {
     let (mut first, mut second, mut counts) = (case.first.clone(), case.second.clone(), case.counts.clone());
-    model::pair(&mut first, &mut second, case.agreement, case.disagreement, &mut counts);
+    model::pair(&mut first, &mut second, case.ways(), &mut counts);
     let bytes = records == [&first, &second];
     match (ended, expected) {
         (Ended::Done((overlap, _)), No) => !overlap,

@@ -1,9 +1,9 @@
-//! One case, all sides: the exported calls against the model, and on accepted input the published
-//! Rust, in both builds, as the judge. What differs must belong to a known class.
+//! One case, all sides: the exported calls against the model, and on accepted input with the cap 93 the
+//! published Rust, in both builds, as the judge. What differs must belong to a known class.
 use crate::call::{After, call, wrapped, wrapped_reason};
 use crate::model::{self, Answer};
 use crate::published::{self, Ended, PairRun};
-use crate::record::{Case, hex, pack, unpack, uses};
+use crate::record::{CAP, Case, hex, pack, unpack, uses};
 use std::collections::BTreeMap;
 
 /// Accepted input on which the published Rust wraps, panics or places a base elsewhere
@@ -82,7 +82,7 @@ pub struct Tally {
     pub known: BTreeMap<(Class, String), (u64, Case)>,
     /// What the Rust without checks does where we refuse, by our number: no, yes, panic.
     pub on_refused: BTreeMap<u32, [u64; 3]>,
-    /// Records that overlap (0), and that do not, by the reason. Strategies and counts don't matter here.
+    /// Records that overlap (0), and that do not, by the reason. Strategies, cap and counts don't matter here.
     pub reasons: [u64; 6],
     /// Records that are refused as 5, by place and by the operation's index.
     pub operations: BTreeMap<(u32, u32), u64>,
@@ -177,6 +177,7 @@ pub fn compare(case: &Case, tally: &mut Tally) -> Result<Answer, String> {
         return Err("the safe wrapper and the call differ in the reason".into());
     }
     match answer {
+        _ if case.cap != CAP => {} // the Rust has no other
         Answer::Refused { number, .. } => look_at_refused(case, number, tally),
         _ => rust_judges(case, &expected, reason, tally)?,
     }
@@ -185,7 +186,7 @@ pub fn compare(case: &Case, tally: &mut Tally) -> Result<Answer, String> {
 
 /// The reason that was given, beside the model's and beside the call's answer, which the model gave too.
 fn compare_reason(case: &Case, answer: Answer, reason: u32, tally: &mut Tally) -> Result<(), String> {
-    let by_call = matches!(answer.code(), 1009 | 1010 | 1015); // and not by the records
+    let by_call = matches!(answer.code(), 1009 | 1010 | 1015 | 1022); // and not by the records
     let of_records = if by_call { model::of_records(&case.first, &case.second) } else { answer };
     tally.count_reason(of_records);
     if reason != of_records.reason() {
@@ -205,7 +206,7 @@ fn compare_reason(case: &Case, answer: Answer, reason: u32, tally: &mut Tally) -
 /// What the paper asks for.
 fn modelled(case: &Case) -> (Answer, After) {
     let (mut first, mut second, mut counts) = (case.first.clone(), case.second.clone(), case.counts.clone());
-    let answer = model::pair(&mut first, &mut second, case.agreement, case.disagreement, &mut counts);
+    let answer = model::pair(&mut first, &mut second, case.ways(), &mut counts);
     (answer, After { answer: answer.code(), first, second, counts })
 }
 
@@ -293,7 +294,10 @@ fn look_at_refused(case: &Case, number: u32, tally: &mut Tally) {
 
 /// The case as the command `judge one` takes it.
 pub fn spelled(case: &Case) -> String {
-    format!("{} {} {} {} {}", case.agreement, case.disagreement, hex(&case.counts), hex(&case.first), hex(&case.second))
+    let Case { agreement, disagreement, cap, .. } = *case;
+    let (counts, first, second) = (hex(&case.counts), hex(&case.first), hex(&case.second));
+    let cap = if cap == CAP { String::new() } else { format!(" {cap}") };
+    format!("{agreement} {disagreement} {counts} {first} {second}{cap}")
 }
 
 /// Compares, and ends the run at the first finding.

@@ -1,5 +1,6 @@
 //! Every limit of the table of refusals and of the reasons, at it and one off, in the first and in the
-//! second record; and every two of these at once, which shows the order of judgement.
+//! second record; and every two of these at once, which shows the order of judgement. The limits of the cap
+//! beside each of these.
 use crate::compare::{Tally, check};
 use crate::record::*;
 
@@ -354,9 +355,26 @@ fn cases_of_reasons() -> Vec<Case> {
     all
 }
 
+/// Each limit of the cap and some that are far off, alone and with each other change. The stored list, which
+/// has no place for a cap, has none of them.
+fn cases_of_caps() -> Vec<Case> {
+    const CAPS: [u32; 11] = [0, 1, LEAST_CAP, 40, CAP - 1, CAP + 1, 95, 256 + 40, 65_536 + 40, 1 << 31, u32::MAX];
+    let (a, b) = plain();
+    let firsts = variants(&a).into_iter().chain(changed(&a, reasons())).map(|first| (first, b.encode()));
+    let seconds = variants(&b).into_iter().chain(changed(&b, reasons())).map(|second| (a.encode(), second));
+    let mut all: Vec<Case> = firsts.chain(seconds).map(|(first, second)| Case::new(first, second, 0, 0)).collect();
+    for change in others() {
+        let mut case = Case::new(a.encode(), b.encode(), 0, 0);
+        change(&mut case);
+        all.push(case);
+    }
+    CAPS.iter().flat_map(|&cap| all.iter().map(move |case| Case { cap, ..case.clone() })).collect()
+}
+
 pub fn run() {
     let mut tally = Tally::default();
-    for case in cases().into_iter().map(|changed| changed.case).chain(cases_of_reasons()) {
+    let limits = cases().into_iter().map(|changed| changed.case);
+    for case in limits.chain(cases_of_reasons()).chain(cases_of_caps()) {
         check(&case, &mut tally);
     }
     tally.print("every limit at it and one off, one and two at a time");

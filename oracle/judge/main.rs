@@ -1,6 +1,7 @@
 //! The judge: runs the exported calls, a model of the paper and the published Rust on the same
 //! input and compares every answer, reason, byte and count. oracle/README.md says how to use it.
 mod call;
+mod caps;
 mod classes;
 mod compare;
 mod group_cases;
@@ -17,7 +18,7 @@ mod stored;
 
 use compare::{Tally, check};
 use published::PairRun;
-use record::{Case, hex, unhex};
+use record::{CAP, Case, hex, unhex};
 use rng::Rng;
 
 const USAGE: &str = "\
@@ -25,7 +26,8 @@ judge random SEED COUNT                 well-formed pairs
 judge damaged SEED COUNT                the same with damage
 judge extremes SEED COUNT               positions, lengths and totals at the ends of their ranges
 judge codes SEED COUNT                  operations of codes above 8, at any index
-judge limits                            each limit of the table of refusals and of the reasons, at it and one off
+judge caps SEED COUNT                   all of these with every cap
+judge limits                            each limit of the table of refusals, of the reasons and of the cap, at it and one off
 judge short FIRST SECOND LONGEST SEED   all operation lists of up to so many operations
 judge zeros FIRST SECOND SEED           all lists of M, I and D of up to so many, of lengths 0 to 2
                                         with `smallest` behind these, except short: the smallest input of each class
@@ -33,7 +35,8 @@ judge groups PROGRAM SEED COUNT         groups through the program's standard in
 judge group-limits PROGRAM              each limit of a group, at it and one off
 judge classes                           the smallest inputs on which the Rust does something else
 judge store FOLDER SEED                 writes the stored list of answers
-judge one AGREEMENT DISAGREEMENT COUNTS FIRST SECOND    one pair in hexadecimal, every side shown";
+judge one AGREEMENT DISAGREEMENT COUNTS FIRST SECOND [CAP]
+                                        one pair in hexadecimal, every side shown; the cap is 93 unless given";
 
 fn main() {
     let words: Vec<String> = std::env::args().skip(1).collect();
@@ -50,6 +53,7 @@ fn main() {
         "damaged" => show(with_reasons(seeded("damaged pairs", random::damaged, number(1), number(2)))),
         "extremes" => show(seeded("extreme pairs", random::extreme, number(1), number(2))),
         "codes" => show(with_operations(seeded("pairs with codes above 8", random::miscoded, number(1), number(2)))),
+        "caps" => show(caps::run(number(1), number(2))),
         "limits" => limits::run(),
         "short" => short::run(number(1) as u32, number(2) as u32, number(3) as u32, number(4)),
         "zeros" => show(short::zeros(number(1) as u32, number(2) as u32, number(3))),
@@ -60,6 +64,7 @@ fn main() {
         "one" => one(&Case {
             agreement: number(1) as u32,
             disagreement: number(2) as u32,
+            cap: if words.len() > 6 { number(6) as u32 } else { CAP },
             counts: unhex(word(3)),
             first: unhex(word(4)),
             second: unhex(word(5)),
@@ -105,7 +110,7 @@ fn one(case: &Case) {
         println!("{side:<20} {answer}\n  first  {}\n  second {}", hex(first), hex(second));
     };
     let (mut a, mut b, mut c) = (case.first.clone(), case.second.clone(), case.counts.clone());
-    let answer = model::pair(&mut a, &mut b, case.agreement, case.disagreement, &mut c).code();
+    let answer = model::pair(&mut a, &mut b, case.ways(), &mut c).code();
     let reason = model::of_records(&case.first, &case.second).reason();
     let said = |answer, reason, counts| format!("{answer} reason {reason} counts {}", hex(counts));
     show("the paper", said(answer, reason, &c), &a, &b);
@@ -115,7 +120,8 @@ fn one(case: &Case) {
     }
     let builds =
         [("Rust with checks", published::checked::pair as PairRun), ("Rust without checks", published::plain::pair)];
-    for (side, run) in builds.into_iter().filter(|_| case.agreement < 3 && case.disagreement < 3) {
+    let knows = case.agreement < 3 && case.disagreement < 3 && case.cap == CAP;
+    for (side, run) in builds.into_iter().filter(|_| knows) {
         let (mut a, mut b) = (case.first.clone(), case.second.clone());
         let ended = run(&mut a, &mut b, case.agreement, case.disagreement);
         show(side, format!("{ended:?}"), &a, &b);

@@ -1,8 +1,9 @@
-//! Document 01 read literally, with the reasons of Wish 2, the one text of it in Rust: which answer an
-//! input gets, with which number and place, why two records don't overlap, and what a shared position
-//! becomes. Written from the documents alone, plainly and slowly. It is the judge of refusals and of
-//! reasons, and of the few inputs on which the published Rust wraps or panics.
-use crate::record::{LAST, MOST, pack, unpack, uses};
+//! Document 01 read literally, with the reasons of Wish 2 and the cap of Wish 6, the one text of it in
+//! Rust: which answer an input gets, with which number and place, why two records don't overlap, and what
+//! a shared position becomes. Written from the documents alone, plainly and slowly. It is the judge of
+//! refusals and of reasons, of every cap but 93, and of the few inputs on which the published Rust wraps
+//! or panics.
+use crate::record::{CAP, LAST, LEAST_CAP, MOST, Ways, pack, unpack, uses};
 
 /// Why two records don't overlap.
 #[derive(Clone, Copy, Debug, PartialEq, Eq)]
@@ -79,7 +80,7 @@ fn operations_at(r: &[u8]) -> usize {
 pub fn bases_at(r: &[u8]) -> usize {
     operations_at(r) + 4 * operation_count(r)
 }
-fn qualities_at(r: &[u8]) -> u64 {
+pub fn qualities_at(r: &[u8]) -> u64 {
     bases_at(r) as u64 + (l_seq(r) + 1) / 2
 }
 pub fn name(r: &[u8]) -> &[u8] {
@@ -172,22 +173,23 @@ pub fn shared(first: &[u8], second: &[u8]) -> Vec<(usize, usize)> {
 
 // ---- What a shared position becomes ----
 
-const UNCALLED: u8 = 15;
+pub const UNCALLED: u8 = 15;
 type Called = (u8, u64); // base code, quality
 
-/// Both sides afterwards, and the growth of `corrected`.
-fn treated(x: Called, y: Called, agreement: u32, disagreement: u32) -> (Called, Called, u64) {
+/// Both sides afterwards, and the growth of `corrected`. Only agreement under Consensus goes by the cap.
+fn treated(x: Called, y: Called, ways: Ways) -> (Called, Called, u64) {
     let ((base, a), (mate, b)) = (x, y);
     let masked = (UNCALLED, 2);
     if base == mate {
-        let (p, q) = match agreement {
-            0 => ((a + b).min(93), (a + b).min(93)),
+        let capped = (a + b).min(u64::from(ways.cap));
+        let (p, q) = match ways.agreement {
+            0 => (capped, capped),
             1 => (a.max(b), a.max(b)),
             _ => (a, b),
         };
         return ((base, p), (mate, q), u64::from(p != a || q != b));
     }
-    match disagreement {
+    match ways.disagreement {
         0 if a == b => (masked, masked, 2),
         0 => {
             let winner = (if a > b { base } else { mate }, a.abs_diff(b).max(2));
@@ -244,7 +246,7 @@ fn judged(first: &[u8], second: &[u8], places: (u32, u32)) -> Result<Vec<(usize,
     if positions.is_empty() { Err(Answer::NoOverlap(Reason::NoSharedPosition)) } else { Ok(positions) }
 }
 
-/// What the records alone give, without strategies and counts.
+/// What the records alone give, without strategies, cap and counts.
 pub fn of_records(first: &[u8], second: &[u8]) -> Answer {
     match judged(first, second, (1, 2)) {
         Ok(_) => Answer::Overlap,
@@ -253,20 +255,14 @@ pub fn of_records(first: &[u8], second: &[u8]) -> Answer {
 }
 
 /// Treats each shared position; answers the growth of the four counts.
-fn apply(
-    first: &mut [u8],
-    second: &mut [u8],
-    positions: &[(usize, usize)],
-    agreement: u32,
-    disagreement: u32,
-) -> [u64; 4] {
+fn apply(first: &mut [u8], second: &mut [u8], positions: &[(usize, usize)], ways: Ways) -> [u64; 4] {
     let mut growth = [0; 4];
     for &(i, j) in positions {
         let (x, y) = (called(first, i), called(second, j));
         if x.0 == UNCALLED || y.0 == UNCALLED {
             continue;
         }
-        let (p, q, corrected) = treated(x, y, agreement, disagreement);
+        let (p, q, corrected) = treated(x, y, ways);
         put(first, i, p);
         put(second, j, q);
         growth[0] += 1;
@@ -277,12 +273,15 @@ fn apply(
 }
 
 /// The exported call.
-pub fn pair(first: &mut [u8], second: &mut [u8], agreement: u32, disagreement: u32, counts: &mut [u8]) -> Answer {
+pub fn pair(first: &mut [u8], second: &mut [u8], ways: Ways, counts: &mut [u8]) -> Answer {
     if counts.len() != 32 {
         return refused(15, 0);
     }
-    if agreement > 2 || disagreement > 2 {
+    if ways.agreement > 2 || ways.disagreement > 2 {
         return refused(10, 0);
+    }
+    if ways.cap < LEAST_CAP || ways.cap > CAP {
+        return refused(22, 0);
     }
     let given = unpack(counts);
     if given.iter().any(|&c| c > MOST) {
@@ -292,7 +291,7 @@ pub fn pair(first: &mut [u8], second: &mut [u8], agreement: u32, disagreement: u
         Ok(positions) => positions,
         Err(answer) => return answer,
     };
-    let growth = apply(first, second, &positions, agreement, disagreement);
+    let growth = apply(first, second, &positions, ways);
     counts.copy_from_slice(&pack(std::array::from_fn(|k| given[k] + growth[k])));
     Answer::Overlap
 }
@@ -337,7 +336,7 @@ pub fn pairs(records: &[Vec<u8>]) -> Vec<(usize, usize)> {
         .collect()
 }
 
-/// What the program writes for this input.
+/// What the program, which has one cap, writes for this input.
 pub fn program(input: &[u8]) -> Vec<u8> {
     match group_answer(input) {
         Ok(out) => out,
@@ -353,6 +352,7 @@ fn group_answer(input: &[u8]) -> Result<Vec<u8>, Answer> {
     let (Some(agreement), Some(disagreement)) = (digit(0), digit(1)) else {
         return Err(refused(10, 0));
     };
+    let ways = Ways { agreement, disagreement, cap: CAP };
     let mut all = records(&input[2..])?;
     let mut work = Vec::new();
     let found = pairs(&all);
@@ -366,7 +366,7 @@ fn group_answer(input: &[u8]) -> Result<Vec<u8>, Answer> {
     let mut growth = [0; 4];
     for (i, j, positions) in &work {
         let (mut a, mut b) = (all[*i].clone(), all[*j].clone());
-        let g = apply(&mut a, &mut b, positions, agreement, disagreement);
+        let g = apply(&mut a, &mut b, positions, ways);
         growth = std::array::from_fn(|k| growth[k] + g[k]);
         (all[*i], all[*j]) = (a, b);
     }

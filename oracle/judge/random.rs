@@ -114,7 +114,7 @@ pub fn reads(r: &mut Rng) -> (Read, Read) {
 pub fn good(r: &mut Rng) -> Case {
     let (a, b) = reads(r);
     let (agreement, disagreement) = (r.below(3) as u32, r.below(3) as u32);
-    Case { first: a.encode(), second: b.encode(), agreement, disagreement, counts: counts(r) }
+    Case { counts: counts(r), ..Case::new(a.encode(), b.encode(), agreement, disagreement) }
 }
 
 /// A well-formed pair with one to three places damaged.
@@ -229,6 +229,7 @@ pub fn extreme(r: &mut Rng) -> Case {
         second: b.encode(),
         agreement: r.below(3) as u32,
         disagreement: r.below(3) as u32,
+        cap: CAP,
         counts: counts(r),
     }
 }

@@ -12,6 +12,9 @@ pub const X: u32 = 8;
 
 /// The longest operation that 28 bits hold.
 pub const LONGEST: u32 = (1 << 28) - 1;
+/// The caps that a call accepts: from the least to the one that the published Rust has.
+pub const LEAST_CAP: u32 = 2;
+pub const CAP: u32 = 93;
 /// The largest count that a call accepts.
 pub const MOST: u64 = 18_446_744_073_692_774_399;
 /// The largest end of a read on its reference.
@@ -73,6 +76,15 @@ impl Read {
     }
 }
 
+/// What a caller chooses: the strategies by their numbers, and the cap on what agreement under Consensus
+/// gives.
+#[derive(Clone, Copy, Debug)]
+pub struct Ways {
+    pub agreement: u32,
+    pub disagreement: u32,
+    pub cap: u32,
+}
+
 /// What goes into one pair call.
 #[derive(Clone)]
 pub struct Case {
@@ -80,12 +92,18 @@ pub struct Case {
     pub second: Vec<u8>,
     pub agreement: u32,
     pub disagreement: u32,
+    pub cap: u32,
     pub counts: Vec<u8>,
 }
 
 impl Case {
+    /// With the cap of the published Rust, and counts of 0.
     pub fn new(first: Vec<u8>, second: Vec<u8>, agreement: u32, disagreement: u32) -> Case {
-        Case { first, second, agreement, disagreement, counts: vec![0; 32] }
+        Case { first, second, agreement, disagreement, cap: CAP, counts: vec![0; 32] }
+    }
+
+    pub fn ways(&self) -> Ways {
+        Ways { agreement: self.agreement, disagreement: self.disagreement, cap: self.cap }
     }
 }
 

@@ -116,7 +116,7 @@ pub fn write(folder: &str, seed: u64) {
     let list = pairs(seed);
     for (case, answer) in &list {
         let (mut first, mut second, mut counts) = (case.first.clone(), case.second.clone(), case.counts.clone());
-        model::pair(&mut first, &mut second, case.agreement, case.disagreement, &mut counts);
+        model::pair(&mut first, &mut second, case.ways(), &mut counts);
         out.extend(case.agreement.to_le_bytes());
         out.extend(case.disagreement.to_le_bytes());
         out.extend([first.len(), second.len(), counts.len(), answer.code() as usize].map(number).concat());

@@ -7,6 +7,7 @@
 #include <stdarg.h>
 #include <stdint.h>
 #include <stdio.h>
+#include <string.h>
 
 extern unsigned passed, failed;   /* of the file with main */
 
@@ -40,9 +41,13 @@ static inline const char *text(const char *format, ...)
 static inline void check_bytes(const char *what, const char *where, const uint8_t *expected, const uint8_t *got, size_t n)
 {
     size_t i = 0;
-    while (i < n && expected[i] == got[i])
+    if (memcmp(expected, got, n) == 0) {
+        passed++;
+        return;
+    }
+    while (expected[i] == got[i])
         i++;
-    check(i == n, "%s: %s, byte %zu: expected %u, got %u", what, where, i, i < n ? expected[i] : 0u, i < n ? got[i] : 0u);
+    check(0, "%s: %s, byte %zu: expected %u, got %u", what, where, i, expected[i], got[i]);
 }
 
 /* Says how many passed and failed; what main is to answer. */

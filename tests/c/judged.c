@@ -1,12 +1,15 @@
 /*
  * The exported calls on a pair, run on the paper's whole case, on the examples of examples.h, on each refusal and each
- * reason at its limit and one off, and on every two faults at once. It prints a line for each check that fails, and at the
- * end how many passed and failed.
+ * reason at its limit and one off, on every two faults at once, and with every cap. It prints the seed of the random
+ * pairs, a line for each check that fails, and at the end how many passed and failed.
+ *
+ *   judged [SEED]
  */
 #include "judged.h"
 #include "examples.h"
 
 unsigned passed, failed;
+uint64_t random_state;
 
 /* A record from the hexadecimal that the paper writes. */
 static void from_hex(struct record *r, const char *hex)
@@ -44,21 +47,22 @@ static void build_after(struct record *r, const struct read *before, const struc
     build(r, before->pos, before->operations, a->bases ? a->bases : before->bases, a->qualities ? a->qualities : before->qualities);
 }
 
-static void examples(void)
+void examples(uint32_t cap)
 {
     static struct record first, second;
+    int refused = cap < LEAST_CAP || cap > MOST_CAP;
     for (size_t i = 0; i < sizeof EXAMPLES / sizeof EXAMPLES[0]; i++) {
         const struct example *e = &EXAMPLES[i];
+        const char *what = text("%s, cap %" PRIu32, e->what, cap);
         start_call();
-        given.agreement = e->agreement;
-        given.disagreement = e->disagreement;
+        given.ways = (struct ways){e->agreement, e->disagreement, cap};
         build(&given.first, e->first.pos, e->first.operations, e->first.bases, e->first.qualities);
         build(&given.second, e->second.pos, e->second.operations, e->second.bases, e->second.qualities);
         build_after(&first, &e->first, &e->first_after);
         build_after(&second, &e->second, &e->second_after);
-        expect_answer(e->what, e->answer);
-        if (e->answer == 1)
-            expect_after(e->what, &first, &second, e->growth);
+        expect_answer(what, refused ? 1022 : e->answer);
+        if (e->answer == 1 && cap == MOST_CAP)
+            expect_after(what, &first, &second, e->growth);
     }
 }
 
@@ -91,14 +95,17 @@ static void longest_reads(void)
     expect_after("longest reads", &first, &second, growth);
 }
 
-int main(void)
+int main(int argc, char **argv)
 {
+    random_state = argc > 1 ? strtoull(argv[1], NULL, 10) : 20261116;
+    printf("seed %" PRIu64 "\n", random_state);
     whole_case();
-    examples();
+    examples(MOST_CAP);
     spare_half();
     longest_reads();
     limits();
     order_of_judgement();
     reasons();
+    caps();
     return tell_checks();
 }

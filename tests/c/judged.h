@@ -1,7 +1,7 @@
 /*
  * What the files of the program judged share: records built from texts, and calls on a pair of them with watched bytes
- * behind. judged_limits.c, judged_zeros.c, judged_order.c and judged_reasons.c are a topic each, with a function for main
- * at its end.
+ * behind. judged_limits.c, judged_zeros.c, judged_order.c, judged_reasons.c and judged_caps.c are a topic each, with a
+ * function for main at its end.
  */
 #ifndef JUDGED_H
 #define JUDGED_H
@@ -16,6 +16,7 @@
 #include "checks.h"
 #include "model.h"
 #include "records.h"
+#include "seeded.h"
 
 /* ---- Records: judged_calls.c ---- */
 
@@ -45,6 +46,9 @@ static inline void set_operation(struct record *r, int i, uint32_t length, uint3
 /* A record from texts: operations as "2S3M", bases as "ACGT", qualities as "30 20". Four bytes for a tag end it. */
 void build(struct record *r, int32_t pos, const char *operations, const char *bases, const char *qualities);
 
+/* The same from codes and qualities by their numbers, as many as a record holds. */
+void build_coded(struct record *r, int32_t pos, const char *operations, const struct called *bases, uint32_t count);
+
 /* A record of `count` bases, all of one code and quality. */
 void build_plain(struct record *r, int32_t pos, const char *operations, uint32_t count, uint8_t code, uint8_t quality);
 
@@ -56,7 +60,7 @@ void build_many(struct record *r, uint32_t count, uint32_t length, uint32_t code
 /* What a call is given, and the same after it. The bytes behind those of the counts are watched too. */
 struct call {
     struct record first, second;
-    uint32_t agreement, disagreement;
+    struct ways ways;
     uint8_t counts[OVERLAP_COUNTS_SIZE + 8];
     size_t counts_len;
 };
@@ -69,9 +73,13 @@ void start_call(void);
 /* The same, with two records that share four positions, and agree at each. */
 void good_pair(void);
 
-/* Makes the call, and expects its answer. But for answer 1, every byte has to be as it was. Before the call and after it
-   the reason is asked for, which writes nothing: it has to be the model's both times, and to go with the answer. */
+/* Makes the call, and expects its answer. Every byte has to be as the model has it; and but for answer 1, as it was. Before
+   the call and after it the reason is asked for, which writes nothing: it has to be the model's both times, and to go with
+   the answer. */
 void expect_answer(const char *what, uint32_t answer);
+
+/* The same, with the model's answer, which it gives. */
+uint32_t expect_modelled(const char *what);
 
 /* The same, with the reason known without the model; the answer is the one that goes with it. */
 void expect_reason(const char *what, uint32_t reason);
@@ -91,11 +99,17 @@ void expect_after(const char *what, const struct record *first, const struct rec
 void at_each_place(const char *what, uint32_t answer);
 void reason_at_each_place(const char *what, uint32_t reason);
 
+/* ---- Examples: judged.c ---- */
+
+/* The pairs of examples.h with this cap. What becomes of them stands there for the largest cap. */
+void examples(uint32_t cap);
+
 /* ---- Topics ---- */
 
 void limits(void);
 void lengths_of_zero(void);
 void order_of_judgement(void);
 void reasons(void);
+void caps(void);
 
 #endif

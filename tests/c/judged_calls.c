@@ -42,12 +42,22 @@ void build(struct record *r, int32_t pos, const char *operations, const char *ba
     lay(r, pos, operations, codes, quals, count);
 }
 
-void build_plain(struct record *r, int32_t pos, const char *operations, uint32_t count, uint8_t code, uint8_t quality)
+void build_coded(struct record *r, int32_t pos, const char *operations, const struct called *bases, uint32_t count)
 {
     static uint8_t codes[LONGEST], quals[LONGEST];
-    memset(codes, code, count);
-    memset(quals, quality, count);
+    for (uint32_t i = 0; i < count; i++) {
+        codes[i] = (uint8_t)bases[i].code;
+        quals[i] = (uint8_t)bases[i].quality;
+    }
     lay(r, pos, operations, codes, quals, count);
+}
+
+void build_plain(struct record *r, int32_t pos, const char *operations, uint32_t count, uint8_t code, uint8_t quality)
+{
+    static struct called bases[LONGEST];
+    for (uint32_t i = 0; i < count; i++)
+        bases[i] = (struct called){code, quality};
+    build_coded(r, pos, operations, bases, count);
 }
 
 void build_many(struct record *r, uint32_t count, uint32_t length, uint32_t code, uint32_t bases)
@@ -64,8 +74,7 @@ void build_many(struct record *r, uint32_t count, uint32_t length, uint32_t code
 
 void start_call(void)
 {
-    given.agreement = OVERLAP_AGREE_CONSENSUS;
-    given.disagreement = OVERLAP_DISAGREE_CONSENSUS;
+    given.ways = (struct ways){OVERLAP_AGREE_CONSENSUS, OVERLAP_DISAGREE_CONSENSUS, OVERLAP_CAP_MAX};
     memset(given.counts, 0xEE, sizeof given.counts);
     put_start_counts(given.counts);
     given.counts_len = OVERLAP_COUNTS_SIZE;
@@ -97,21 +106,44 @@ static uint32_t ask_reason(const char *what, const char *when, uint32_t expected
     return got;
 }
 
+/* Expects every byte in `after`, and those watched, as it is in `expected`. */
+static void check_call(const char *what, const struct call *expected)
+{
+    check_bytes(what, "first record", expected->first.bytes, after.first.bytes, sizeof after.first.bytes);
+    check_bytes(what, "second record", expected->second.bytes, after.second.bytes, sizeof after.second.bytes);
+    check_bytes(what, "counts", expected->counts, after.counts, sizeof after.counts);
+}
+
+/* What the model makes of the call in `given`; gives its answer. */
+static struct call model;
+static uint32_t make_model(void)
+{
+    memcpy(&model, &given, sizeof given);
+    return pair_model((struct lent){model.first.bytes, model.first.len}, (struct lent){model.second.bytes, model.second.len},
+                      model.ways, (struct lent){model.counts, model.counts_len});
+}
+
+/* Expects what the model makes of the same call. */
+static void check_model(const char *what, uint32_t answer)
+{
+    uint32_t modelled = make_model();
+    check(modelled == answer, "%s: expected the answer %" PRIu32 ", the model has %" PRIu32, what, answer, modelled);
+    check_call(what, &model);
+}
+
 /* Makes both calls, and expects what they answer. */
 static void expect_both(const char *what, uint32_t answer, uint32_t reason)
 {
     memcpy(&after, &given, sizeof given);
     uint32_t before = ask_reason(what, "before", reason);
-    uint32_t got = overlap_call(after.first.bytes, after.first.len, after.second.bytes, after.second.len,
-                                after.agreement, after.disagreement, after.counts, after.counts_len);
+    uint32_t got = overlap_call(after.first.bytes, after.first.len, after.second.bytes, after.second.len, after.ways.agreement,
+                                after.ways.disagreement, after.ways.cap, after.counts, after.counts_len);
     check(got == answer, "%s: expected the answer %" PRIu32 ", got %" PRIu32, what, answer, got);
-    if (answer != 1) {
-        check_bytes(what, "first record", given.first.bytes, after.first.bytes, sizeof given.first.bytes);
-        check_bytes(what, "second record", given.second.bytes, after.second.bytes, sizeof given.second.bytes);
-        check_bytes(what, "counts", given.counts, after.counts, sizeof given.counts);
-    }
+    check_model(what, answer);
+    if (answer != 1)
+        check_call(what, &given);
     check(ask_reason(what, "after", reason) == before, "%s: the reason is another after the call", what);
-    if (got != 1009 && got != 1010 && got != 1015)
+    if (got != 1009 && got != 1010 && got != 1015 && got != 1022)
         check(got == answer_beside(before), "%s: the answer %" PRIu32 " doesn't go with the reason %" PRIu32, what, got, before);
 }
 
@@ -123,6 +155,13 @@ static uint32_t modelled_reason(void)
 void expect_answer(const char *what, uint32_t answer)
 {
     expect_both(what, answer, modelled_reason());
+}
+
+uint32_t expect_modelled(const char *what)
+{
+    uint32_t answer = make_model();
+    expect_answer(what, answer);
+    return answer;
 }
 
 void expect_answer_and_reason(const char *what, uint32_t answer, uint32_t reason)

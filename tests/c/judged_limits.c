@@ -137,13 +137,13 @@ static void limits_of_the_call(void)
 
     for (uint32_t m = 0; m <= 3; m++) {
         for (uint32_t k = 0; k <= 3; k++) {
-            good_pair(); given.agreement = m; given.disagreement = k;
+            good_pair(); given.ways.agreement = m; given.ways.disagreement = k;
             expect_answer(text("strategy numbers %u and %u", m, k), m < 3 && k < 3 ? 1 : 1010);
         }
     }
-    good_pair(); given.agreement = 4294967295; expect_answer("agreement 4294967295", 1010);
-    good_pair(); given.disagreement = 4294967295; expect_answer("disagreement 4294967295", 1010);
-    good_pair(); given.agreement = 256; expect_answer("agreement 256", 1010);
+    good_pair(); given.ways.agreement = 4294967295; expect_answer("agreement 4294967295", 1010);
+    good_pair(); given.ways.disagreement = 4294967295; expect_answer("disagreement 4294967295", 1010);
+    good_pair(); given.ways.agreement = 256; expect_answer("agreement 256", 1010);
 
     for (int i = 0; i < 4; i++) {
         static struct record both;

@@ -4,7 +4,7 @@
 /* What can be wrong with a pair, in the order of judgement. Those before SHORT_1 are faults of the call, and the reason
    doesn't know them. */
 enum fault {
-    COUNTS_SLICE, STRATEGY, COUNT,
+    NO_COUNTS, SHORT_COUNTS, LONG_COUNTS, AGREEMENT, DISAGREEMENT, CAP_0, CAP_1, CAP_94, LARGEST_CAP, COUNT_0, COUNT_1, COUNT_2, COUNT_3,
     SHORT_1, LONG_1, NAME_1, BASES_1, SHORT_2, LONG_2, NAME_2, BASES_2,
     UNMAPPED_1, UNMAPPED_2, IDS_DIFFER, NEGATIVE_1, NEGATIVE_2,
     CODE_1, TOTAL_1, END_1, CODE_2, TOTAL_2, END_2,
@@ -13,7 +13,10 @@ enum fault {
 
 /* Each fault with the answer and the reason that it gives alone; the reason of a code has the operation's index besides. */
 static const struct { const char *name; uint32_t answer, reason; } FAULTS[] = {
-    [COUNTS_SLICE] = {"counts slice", 1015, 0}, [STRATEGY] = {"strategy", 1010, 0}, [COUNT] = {"count", 1009, 0},
+    [NO_COUNTS] = {"counts of 0 bytes", 1015, 0}, [SHORT_COUNTS] = {"counts of 31 bytes", 1015, 0}, [LONG_COUNTS] = {"counts of 33 bytes", 1015, 0},
+    [AGREEMENT] = {"agreement", 1010, 0}, [DISAGREEMENT] = {"disagreement", 1010, 0},
+    [CAP_0] = {"cap 0", 1022, 0}, [CAP_1] = {"cap 1", 1022, 0}, [CAP_94] = {"cap 94", 1022, 0}, [LARGEST_CAP] = {"cap 4294967295", 1022, 0},
+    [COUNT_0] = {"count 0", 1009, 0}, [COUNT_1] = {"count 1", 1009, 0}, [COUNT_2] = {"count 2", 1009, 0}, [COUNT_3] = {"count 3", 1009, 0},
     [SHORT_1] = {"first short", 1101, 1101}, [LONG_1] = {"first long", 1102, 1102},
     [NAME_1] = {"name of the first", 1103, 1103}, [BASES_1] = {"bases of the first", 1104, 1104},
     [SHORT_2] = {"second short", 1201, 1201}, [LONG_2] = {"second long", 1202, 1202},
@@ -73,13 +76,31 @@ static void spoil_record(struct record *r, enum fault fault, int zeros)
     }
 }
 
+/* A fault of the call. */
+static void spoil_call(enum fault fault)
+{
+    switch (fault) {
+    case NO_COUNTS: given.counts_len = 0; break;
+    case SHORT_COUNTS: given.counts_len = 31; break;
+    case LONG_COUNTS: given.counts_len = 33; break;
+    case AGREEMENT: given.ways.agreement = 3; break;
+    case DISAGREEMENT: given.ways.disagreement = 3; break;
+    case CAP_0: given.ways.cap = 0; break;
+    case CAP_1: given.ways.cap = 1; break;
+    case CAP_94: given.ways.cap = 94; break;
+    case LARGEST_CAP: given.ways.cap = 4294967295; break;
+    default: put(given.counts + 8 * (fault - COUNT_0), 8, COUNT_LIMIT + 1);
+    }
+}
+
 static void spoil(enum fault fault, int zeros)
 {
     struct record *a = &given.first, *b = &given.second;
+    if (fault < SHORT_1) {
+        spoil_call(fault);
+        return;
+    }
     switch (fault) {
-    case COUNTS_SLICE: given.counts_len = 31; break;
-    case STRATEGY: given.agreement = 3; break;
-    case COUNT: put(given.counts, 8, COUNT_LIMIT + 1); break;
     case IDS_DIFFER: set(a, REF_ID, 4, 7); break;
     case SHORT_2: spoil_record(b, SHORT_1, zeros); break;
     case LONG_2: spoil_record(b, LONG_1, zeros); break;
@@ -105,30 +126,34 @@ static uint32_t reason_of(int first, int second, int zeros)
     return FAULTS[fault].reason + (named ? INDEX_STEP * (uint32_t)index_of(CLIP, zeros) : 0);
 }
 
-/* The first of these faults and the second, or all that come after the first. */
-static void expect_first(int first, int second, int zeros)
+/* The first of these faults and the second, or all that come after the first; with a good cap where no fault is the cap's. */
+static void expect_first(int first, int second, int zeros, uint32_t cap)
 {
     const char *what, *operations = OPERATIONS_OF[zeros];
     start_call();
+    given.ways.cap = cap;
     build(&given.first, 2147483600, operations, "AACGTA", "30 30 30 30 30 30");
     build(&given.second, 2147483602, operations, "AACGTA", "20 20 20 20 20 20");
     if (second <= NO_FAULT) {
         spoil((enum fault)second, zeros);
-        what = text("%s: %s before %s", operations, FAULTS[first].name, FAULTS[second].name);
+        what = text("%s, cap %u: %s before %s", operations, cap, FAULTS[first].name, FAULTS[second].name);
     } else {
         for (int k = NO_FAULT; k > first; k--)
             spoil((enum fault)k, zeros);
-        what = text("%s: %s before all that come later", operations, FAULTS[first].name);
+        what = text("%s, cap %u: %s before all that come later", operations, cap, FAULTS[first].name);
     }
     spoil((enum fault)first, zeros);
     expect_answer_and_reason(what, FAULTS[first].answer, reason_of(first, second, zeros));
 }
 
-/* Of every two faults the earlier one decides, and so does each with all that come after it. */
+/* Of every two faults the earlier one decides, and so does each with all that come after it: under the largest cap and
+   under the least. */
 void order_of_judgement(void)
 {
     for (int zeros = 0; zeros <= 1; zeros++)
-        for (int i = COUNTS_SLICE; i <= NO_FAULT; i++)
-            for (int j = i; j <= NO_FAULT + 1; j++)
-                expect_first(i, j, zeros);
+        for (int i = NO_COUNTS; i <= NO_FAULT; i++)
+            for (int j = i; j <= NO_FAULT + 1; j++) {
+                expect_first(i, j, zeros, MOST_CAP);
+                expect_first(i, j, zeros, LEAST_CAP);
+            }
 }

@@ -1,9 +1,8 @@
 /*
- * The paper in plain C, the only text of it here: what a shared position becomes (oracle/htslib.c holds it against what
- * htslib reads), why two records do not overlap, frames, mates, and the filed call and the trailer call as
- * include/overlap.h tells them. What a pair becomes and what it adds is asked of overlap_call; judged.c has the pair's
- * answers as examples, and rows.c holds the pairs that share one row of positions against what each position becomes.
- * bench/limit.c and bench/program.c tell the same again for speed.
+ * The paper in plain C, the only text of it here: what a shared position becomes under a cap (oracle/htslib.c holds it
+ * against what htslib reads), why two records do not overlap, what a pair becomes, frames, mates, and the filed call and
+ * the trailer call as include/overlap.h tells them. What a pair of a filed group becomes and adds is asked of
+ * overlap_call, with the cap that filed groups keep to. bench/limit.c and bench/program.c tell the same again for speed.
  */
 #ifndef MODEL_H
 #define MODEL_H
@@ -31,29 +30,33 @@ struct called {
     int code, quality;
 };
 
-/* What two bases become that share a position, neither of them an N, by the numbers of the strategies; gives by how
-   much the count of corrected ones grows. */
-static inline unsigned treat(struct called *x, struct called *y, uint32_t agreement, uint32_t disagreement)
+/* What a caller chooses: the strategies by their numbers, and the cap on what agreement under Consensus gives. */
+struct ways {
+    uint32_t agreement, disagreement, cap;
+};
+
+/* What two bases become that share a position, neither of them an N; gives by how much the count of corrected ones grows. */
+static inline unsigned treat(struct called *x, struct called *y, struct ways by)
 {
     const struct called masked = {NO_CALL, 2};
-    int a = x->quality, b = y->quality, larger = a > b ? a : b, by = a > b ? a - b : b - a;
+    int a = x->quality, b = y->quality, larger = a > b ? a : b, apart = a > b ? a - b : b - a, cap = (int)by.cap;
     if (x->code == y->code) {
-        if (agreement == 0)
-            x->quality = y->quality = a + b > 93 ? 93 : a + b;
-        else if (agreement == 1)
+        if (by.agreement == 0)
+            x->quality = y->quality = a + b > cap ? cap : a + b;
+        else if (by.agreement == 1)
             x->quality = y->quality = larger;
         return x->quality != a || y->quality != b;
     }
-    if (disagreement == 0 && by > 0) {
-        struct called winner = {a > b ? x->code : y->code, by < 2 ? 2 : by};
+    if (by.disagreement == 0 && apart > 0) {
+        struct called winner = {a > b ? x->code : y->code, apart < 2 ? 2 : apart};
         *x = *y = winner;
         return 2;
     }
-    if (disagreement < 2 || a <= b)
+    if (by.disagreement < 2 || a <= b)
         *x = masked;
-    if (disagreement < 2 || b <= a)
+    if (by.disagreement < 2 || b <= a)
         *y = masked;
-    return disagreement == 2 && by > 0 ? 1 : 2;
+    return by.disagreement == 2 && apart > 0 ? 1 : 2;
 }
 
 /* ---- A record ---- */
@@ -169,6 +172,103 @@ static inline uint32_t reason_model(const uint8_t *first, size_t first_len, cons
     return share_a_position(first, second) ? 0 : OVERLAP_REASON_NO_SHARED_POSITION;
 }
 
+/* ---- What a pair becomes ---- */
+
+/* Some bytes that are lent. */
+struct lent {
+    uint8_t *at;
+    size_t len;
+};
+
+/* The base that sits at a reference position, counted from 1; -1 where none does. */
+static inline int64_t base_at(const uint8_t *r, uint64_t position)
+{
+    uint64_t read = 0, seat = number_at(r + POS, 4) + 1;
+    for (uint64_t k = 0; k < operation_count(r); k++) {
+        uint64_t length = operation_at(r, k) / 16, code = operation_at(r, k) % 16;
+        if (uses_read(code) && uses_reference(code) && position >= seat && position < seat + length)
+            return number_at(r + L_SEQ, 4) > 0 ? (int64_t)(read + (position - seat)) : -1;
+        read += uses_read(code) ? length : 0;
+        seat += uses_reference(code) ? length : 0;
+    }
+    return -1;
+}
+
+/* Where the bases of a record begin, two in a byte, and its qualities behind them. */
+static inline uint8_t *bases_of(uint8_t *r)
+{
+    return r + NAME + r[NAME_LENGTH] + 4 * operation_count(r);
+}
+
+static inline uint8_t *qualities_of(uint8_t *r)
+{
+    return bases_of(r) + (number_at(r + L_SEQ, 4) + 1) / 2;
+}
+
+static inline struct called base_of(uint8_t *r, uint64_t i)
+{
+    uint8_t two = bases_of(r)[i / 2];
+    struct called base = {i % 2 == 0 ? two >> 4 : two & 15, qualities_of(r)[i]};
+    return base;
+}
+
+static inline void set_base(uint8_t *r, uint64_t i, struct called base)
+{
+    uint8_t *two = bases_of(r) + i / 2;
+    *two = (uint8_t)(i % 2 == 0 ? base.code << 4 | (*two & 15) : (*two & 0xF0) | base.code);
+    qualities_of(r)[i] = (uint8_t)base.quality;
+}
+
+/* Treats every shared position of two records that have passed all checks, and adds to the counts' growth. */
+static inline void treat_shared(uint8_t *first, uint8_t *second, struct ways by, uint64_t *growth)
+{
+    for (uint64_t i = 0; i < number_at(first + L_SEQ, 4); i++) {
+        uint64_t seat = seat_of(first, i);
+        int64_t j = seat == 0 ? -1 : base_at(second, seat);
+        if (j < 0)
+            continue;
+        struct called x = base_of(first, i), y = base_of(second, (uint64_t)j);
+        if (x.code == NO_CALL || y.code == NO_CALL)
+            continue;
+        growth[0]++;
+        growth[x.code == y.code ? 1 : 2]++;
+        growth[3] += treat(&x, &y, by);
+        set_base(first, i, x);
+        set_base(second, (uint64_t)j, y);
+    }
+}
+
+/* What refuses a call before it looks at the records, or 0. */
+static inline uint32_t fault_of_call(struct ways by, struct lent counts)
+{
+    if (counts.len != OVERLAP_COUNTS_SIZE)
+        return REFUSED(15, 0);
+    if (by.agreement > 2 || by.disagreement > 2)
+        return REFUSED(10, 0);
+    if (by.cap < LEAST_CAP || by.cap > MOST_CAP)
+        return REFUSED(22, 0);
+    for (int i = 0; i < 4; i++)
+        if (number_at(counts.at + 8 * i, 8) > COUNT_LIMIT)
+            return REFUSED(9, 0);
+    return 0;
+}
+
+/* What overlap_call answers and writes. */
+static inline uint32_t pair_model(struct lent first, struct lent second, struct ways by, struct lent counts)
+{
+    uint64_t growth[4] = {0};
+    uint32_t refusal = fault_of_call(by, counts);
+    if (refusal != 0)
+        return refusal;
+    uint32_t reason = reason_model(first.at, first.len, second.at, second.len);
+    if (reason != 0)
+        return reason <= OVERLAP_REASON_NO_SHARED_POSITION ? 0 : reason % INDEX_STEP;
+    treat_shared(first.at, second.at, by, growth);
+    for (int i = 0; i < 4; i++)
+        put(counts.at + 8 * i, 8, number_at(counts.at + 8 * i, 8) + growth[i]);
+    return 1;
+}
+
 /* ---- Frames ---- */
 
 /* A group cut into frames: where each begins, and behind them where the last one ends. */
@@ -242,7 +342,7 @@ static inline uint32_t correct_pair(uint8_t *s, const struct cut *c, size_t i, s
     uint8_t counts[OVERLAP_COUNTS_SIZE] = {0};
     uint32_t answer = overlap_call(s + c->begin[i] + 4, c->begin[i + 1] - c->begin[i] - 4,
                                    s + c->begin[j] + 4, c->begin[j + 1] - c->begin[j] - 4,
-                                   strategies / 3, strategies % 3, counts, sizeof counts);
+                                   strategies / 3, strategies % 3, MOST_CAP, counts, sizeof counts);
     if (answer > 1)
         return REFUSED(answer % 100, answer / 100 % 10 == 1 ? i : j);
     for (int k = 0; k < 4; k++)

@@ -27,8 +27,8 @@ static inline uint64_t number_at(const uint8_t *at, int width)
 /* Where the numbers of a record stand, and its name. */
 enum { REF_ID = 0, POS = 4, NAME_LENGTH = 8, OPERATION_COUNT = 12, FLAGS = 14, L_SEQ = 16, NAME = 32 };
 
-/* How long a record may be, how many a group may have, and the largest count that a call accepts. */
-enum { LONGEST = 65536, MOST_RECORDS = 256 };
+/* How long a record may be, how many a group may have, which caps a call accepts, and the largest count. */
+enum { LONGEST = 65536, MOST_RECORDS = 256, LEAST_CAP = 2, MOST_CAP = 93 };
 #define COUNT_LIMIT UINT64_C(18446744073692774399)
 
 /* Lays down a record's numbers and its name, and gives where its operations begin. A name of NULL has the length 0;

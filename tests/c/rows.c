@@ -3,7 +3,8 @@
  * to 100, at offsets of both parities in each record. All of a row agrees; or it has a fault at each place, which is a
  * difference or an N in the first, in the second or in both; or two faults, 1, 15, 16, 17, 31, 32 and 33 places apart. Each
  * is tried with records that end right behind their last quality, which is the row's, and with bases and up to 40 bytes
- * of tags behind the row. Behind every buffer is a page that can't be touched: a call that goes past an end ends the
+ * of tags behind the row; with the largest cap and with another, and where all agrees also with one that is refused.
+ * Qualities are over the cap, at it and under it. Behind every buffer is a page that can't be touched: a call that goes past an end ends the
  * program, with a line that says at which case. (Where hosts/far makes the calls, its guards find writes alone.) Where
  * all of a row agrees, the reason is asked for in the same buffers, before the call and after it.
  * It prints the seed, a line for each check that fails, and at the end what was compared.
@@ -44,7 +45,8 @@ struct read {
 
 /* A pair that shares `row` positions. */
 struct pair {
-    uint32_t row, agreement, disagreement;
+    uint32_t row;
+    struct ways ways;
     struct read reads[2];
 };
 
@@ -101,7 +103,7 @@ static void agreeing_pair(struct pair *p, uint32_t row, unsigned parities, int b
         r->tags = bare || once_in(3) ? 0 : below(41);
         for (uint32_t k = 0; k < bases(r, row); k++) {
             r->codes[k] = (uint8_t)below(16);
-            r->qualities[k] = (uint8_t)(once_in(3) ? below(256) : once_in(8) ? 93 : 2 + below(50));
+            r->qualities[k] = (uint8_t)(once_in(3) ? below(256) : once_in(8) ? p->ways.cap - 1 + below(3) : 2 + below(50));
         }
     }
     for (uint32_t k = 0; k < row; k++)
@@ -137,7 +139,7 @@ static void correct(struct pair *p, uint64_t *growth)
             continue;
         growth[0]++;
         growth[x.code == y.code ? 1 : 2]++;
-        growth[3] += treat(&x, &y, p->agreement, p->disagreement);
+        growth[3] += treat(&x, &y, p->ways);
         first->codes[i] = (uint8_t)x.code;
         first->qualities[i] = (uint8_t)x.quality;
         second->codes[j] = (uint8_t)y.code;
@@ -148,16 +150,16 @@ static void correct(struct pair *p, uint64_t *growth)
 /* ---- Calls ---- */
 
 /* The case that is tried, for what is printed of it. */
-static struct { uint32_t row, places[2]; int faults[2], count, bare; unsigned parities, strategies; } now;
-static unsigned long calls, bare_calls, asked;
+static struct { uint32_t row, places[2], cap; int faults[2], count, bare; unsigned parities, strategies; } now;
+static unsigned long calls, bare_calls, capped_calls, refused_calls, asked;
 
 static const char *this_case(void)
 {
     static const char *const WORDS[FAULTS] = {"difference", "N in the first", "N in the second", "N in both"};
     const char *fault = now.count < 1 ? "" : text(", %s at %" PRIu32, WORDS[now.faults[0]], now.places[0]);
     const char *other = now.count < 2 ? "" : text(", %s at %" PRIu32, WORDS[now.faults[1]], now.places[1]);
-    return text("row of %" PRIu32 ", parities %u%u%s%s, strategies %u %u%s", now.row, now.parities / 2, now.parities % 2, fault, other,
-                now.strategies / 3, now.strategies % 3, now.bare ? ", nothing behind the row" : "");
+    return text("row of %" PRIu32 ", parities %u%u%s%s, strategies %u %u, cap %" PRIu32 "%s", now.row, now.parities / 2, now.parities % 2,
+                fault, other, now.strategies / 3, now.strategies % 3, now.cap, now.bare ? ", nothing behind the row" : "");
 }
 
 /* The ends of three buffers: behind each is a page that can't be touched, and MARGIN bytes before a buffer are watched. */
@@ -213,14 +215,21 @@ static void ask_reason(uint32_t row, const size_t *len)
     asked++;
 }
 
-/* Makes the call and compares the answer, both records and the counts with what the rules say. */
-static void compare(struct pair *p)
+/* What stands in the three buffers before the call and is expected there after it, and how long each of them is. */
+static uint8_t given[3][MOST_BYTES], expected[3][MOST_BYTES];
+static size_t len[3];
+
+/* Lays down both records and the counts, and what the rules make of them; gives the answer of the rules. */
+static uint32_t lay_buffers(struct pair *p)
 {
-    static uint8_t given[3][MOST_BYTES], expected[3][MOST_BYTES];
-    size_t len[3] = {lay(given[0], &p->reads[0], p->row), lay(given[1], &p->reads[1], p->row), OVERLAP_COUNTS_SIZE};
     uint64_t growth[4] = {0};
+    int refused = p->ways.cap < LEAST_CAP || p->ways.cap > MOST_CAP;
+    for (int i = 0; i < 2; i++)
+        len[i] = lay(given[i], &p->reads[i], p->row);
+    len[2] = OVERLAP_COUNTS_SIZE;
     put_start_counts(given[2]);
-    correct(p, growth);
+    if (!refused)
+        correct(p, growth);
     for (int i = 0; i < 2; i++)
         lay(expected[i], &p->reads[i], p->row);
     for (int i = 0; i < 4; i++)
@@ -229,42 +238,74 @@ static void compare(struct pair *p)
         memset(ends[i] - len[i] - MARGIN, MARK, MARGIN);
         memcpy(ends[i] - len[i], given[i], len[i]);
     }
+    return refused ? REFUSED(22, 0) : p->row > 0;
+}
+
+/* Makes the call and compares the answer, both records and the counts with what the rules say. */
+static void compare(struct pair *p)
+{
+    uint32_t wanted = lay_buffers(p);
     if (now.count == 0)
         ask_reason(p->row, len);
-    uint32_t answer = overlap_call(ends[0] - len[0], len[0], ends[1] - len[1], len[1], p->agreement, p->disagreement,
-                                   ends[2] - len[2], len[2]);
+    uint32_t answer = overlap_call(ends[0] - len[0], len[0], ends[1] - len[1], len[1], p->ways.agreement, p->ways.disagreement,
+                                   p->ways.cap, ends[2] - len[2], len[2]);
     if (now.count == 0)
         ask_reason(p->row, len);
-    if (answer == (p->row > 0))
+    if (answer == wanted)
         passed++;
     else
-        check(0, "%s: expected the answer %d, got %" PRIu32, this_case(), p->row > 0, answer);
+        check(0, "%s: expected the answer %" PRIu32 ", got %" PRIu32, this_case(), wanted, answer);
     check_room("first record", expected[0], ends[0], len[0]);
     check_room("second record", expected[1], ends[1], len[1]);
     check_room("counts", expected[2], ends[2], len[2]);
     calls++;
     bare_calls += (unsigned long)now.bare;
+    capped_calls += now.cap != MOST_CAP && wanted < 1000;
+    refused_calls += wanted > 1000;
     if (failed > 100)
         exit(tell_checks());   /* it fails everywhere */
 }
 
 /* ---- Cases ---- */
 
-/* The row with the faults of `now`, bare and not: under one pair of strategies after the other, or under all nine. */
+/* A pair of the case in `now`, under the pairs of strategies by turns. */
+static void try_pair(unsigned *turn)
+{
+    struct pair p;
+    now.strategies = (*turn)++ % 9;
+    p.ways = (struct ways){now.strategies / 3, now.strategies % 3, now.cap};
+    agreeing_pair(&p, now.row, now.parities, now.bare);
+    for (int i = 0; i < now.count; i++)
+        spoil(&p, now.places[i], now.faults[i]);
+    compare(&p);
+}
+
+/* The row with the faults of `now`, bare and not: with the largest cap under one pair of strategies after the other, or under
+   all nine; and with another cap under all nine where there is no fault, and in half of the other cases under one. */
 static void try_case(int all_nine)
 {
-    static unsigned turn;
+    static unsigned turn, capped_turn;
+    int largest = all_nine ? 9 : 1, others = now.count == 0 ? 9 : once_in(2);
     for (now.bare = 0; now.bare < 2; now.bare++) {
-        for (unsigned k = 0; k < (all_nine ? 9 : 1); k++) {
-            struct pair p;
-            now.strategies = turn++ % 9;
-            agreeing_pair(&p, now.row, now.parities, now.bare);
-            p.agreement = now.strategies / 3;
-            p.disagreement = now.strategies % 3;
-            for (int i = 0; i < now.count; i++)
-                spoil(&p, now.places[i], now.faults[i]);
-            compare(&p);
+        now.cap = MOST_CAP;
+        for (int k = 0; k < largest; k++)
+            try_pair(&turn);
+        for (int k = 0; k < others; k++) {
+            now.cap = once_in(2) ? 40 : LEAST_CAP + below(MOST_CAP - LEAST_CAP);
+            try_pair(&capped_turn);
         }
+    }
+}
+
+/* The row without a fault, bare and not, with each cap by turns that is refused. */
+static void try_refused(void)
+{
+    static const uint32_t CAPS[] = {0, 1, 94, 256 + 40, 65536 + 40, 2147483648, 4294967295};
+    static unsigned turn, cap_turn;
+    now.count = 0;
+    for (now.bare = 0; now.bare < 2; now.bare++) {
+        now.cap = CAPS[cap_turn++ % (sizeof CAPS / sizeof CAPS[0])];
+        try_pair(&turn);
     }
 }
 
@@ -290,6 +331,7 @@ static void try_row(int all_nine)
 {
     now.count = 0;
     try_case(all_nine);
+    try_refused();
     for (uint32_t place = 0; place < now.row; place++) {
         now.count = 1;
         now.places[0] = place;
@@ -315,6 +357,7 @@ int main(int argc, char **argv)
             try_row(is_border(now.row));
     check(calls == 2 * bare_calls && bare_calls > 0, "%lu of %lu calls had nothing behind the row", bare_calls, calls);
     printf("rows of 0 to %d positions: %lu calls compared with the model, answer, both records and counts; in %lu of them nothing"
-           " stands behind the row; the reason asked for %lu times\n", LONGEST_ROW, calls, bare_calls, asked);
+           " stands behind the row; %lu have another cap than 93, %lu one that is refused; the reason asked for %lu times\n",
+           LONGEST_ROW, calls, bare_calls, capped_calls, refused_calls, asked);
     return tell_checks();
 }
