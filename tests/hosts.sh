@@ -5,6 +5,7 @@
 set -eu
 unset CDPATH
 . "$(dirname "$0")/../scripts/settings.sh"
+x86_archive=$ARCHIVE
 need_archive
 need_program_filed
 out=$root/target/hosts
@@ -129,6 +130,6 @@ else
     test_answers
 fi
 test_readme
-sh "$root/tests/version.sh"
+ARCHIVE=$x86_archive sh "$root/tests/version.sh"
 python3 -B "$root/tests/show.py"
 sh "$root/tests/install.sh"
