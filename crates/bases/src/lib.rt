@@ -1,4 +1,6 @@
 // Bases and qualities of a record, read and written where they stand.
+#![tactic(auto)]
+
 ghost use Rattle.std.specs.Prelude.{◌≡◌, ◌<◌, length};
 ghost use Rattle.fields.specs.Sound.{Lies};
 ghost use Rattle.bases.specs.Written.{with_base, with_seen, SeenAt};
@@ -9,7 +11,7 @@ use fields::{Layout, ReadOffset};
 pub const N: u8 = 15;
 
 // A base's code and its quality.
-#[derive(Drop)]
+#[derive(Clone, Copy)]
 pub struct Seen {
     pub base: u8,
     pub quality: u8,

@@ -1,6 +1,8 @@
 // Runs the group call with caps at their limits and beside other faults, and writes a line for each: what
 // it is given, the answer, the two qualities of the pair, and the counts. The file `stdout` holds what the
 // paper says.
+#![tactic(auto)]
+
 ghost use Rattle.std.specs.Prelude.{◌≤◌};
 
 use group::{GroupAnswer, Grouped};

@@ -1,5 +1,7 @@
 // The operations of an alignment: what each uses, the refusals 5, 7 and 8, and a cursor over the bases
 // that sit on the reference. An operation of length 0 uses nothing and places no base.
+#![tactic(auto)]
+
 ghost use Rattle.std.specs.Prelude.{◌≡◌, true, false, ◌+◌, ◌-◌, ◌/◌, ◌%◌, ◌≤◌, ◌<◌, length, take};
 ghost use Rattle.fields.specs.Number.{unsigned};
 ghost use Rattle.fields.specs.Sound.{Lies};
@@ -16,7 +18,7 @@ const USES: usize = 0x3C1A7;
 
 // A place in an alignment: the next `left` bases, from `offset` on, sit at the positions from
 // `position` on; `at` is the byte at which the operation after them begins.
-#[derive(Drop)]
+#[derive(Clone, Copy)]
 pub struct Cursor {
     pub at: usize,
     pub offset: ReadOffset,
@@ -26,28 +28,28 @@ pub struct Cursor {
 
 // How much of the read and of the reference all operations use, or the index of the first that has an
 // unknown code.
-#[derive(Drop)]
+#[derive(Clone, Copy)]
 pub enum Walk {
     Totals(usize, usize),
     UnknownCode(u16),
 }
 
 // A record's operations judged: how much of the reference they use, or the refusal.
-#[derive(Drop)]
+#[derive(Clone, Copy)]
 pub enum Operations {
     Uses(usize),
     Refused(Refusal),
 }
 
 // The positions that an alignment covers: from `start` on, up to but not `end`.
-#[derive(Drop)]
+#[derive(Clone, Copy)]
 pub struct Extent {
     pub start: RefPos,
     pub end: RefPos,
 }
 
 // What an alignment covers, or the refusal of one that ends too late.
-#[derive(Drop)]
+#[derive(Clone, Copy)]
 pub enum Span {
     Covers(Extent),
     Refused(Refusal),

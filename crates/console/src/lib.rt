@@ -1,11 +1,13 @@
 // Standard input and output of the programs: an input is read whole or not at all, an answer is
 // written whole, and what fails is said on standard error.
+#![tactic(auto)]
+
 ghost use Rattle.std.specs.Prelude.{◌≡◌, length};
 ghost use Rattle.console.specs.Input.{moved_of, Within};
 
 // What became of standard input: so many bytes stand at the start of the room, up to its end or to
 // that of the input; or a read failed.
-#[derive(Drop)]
+#[derive(Clone, Copy)]
 pub enum Input {
     Whole(usize),
     Failed,

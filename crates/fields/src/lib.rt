@@ -1,4 +1,6 @@
 // The numbers, the layout and the flags of a BAM record, and the check that its parts lie within it.
+#![tactic(auto)]
+
 ghost use Rattle.std.specs.Prelude.{◌≡◌, ◌+◌, ◌<◌, ◌≤◌, length};
 ghost use Rattle.fields.specs.Number.{unsigned, put, signed32};
 ghost use Rattle.fields.specs.Flag.{has_bit, unmapped, first_segment, last_segment, secondary, supplementary};
@@ -89,7 +91,7 @@ pub fn put_u64(d: &mut [u8], at: usize, v: u64)
 }
 
 // The flags of a record, each a bit of one number. The constants are the weights of the bits.
-#[derive(Drop)]
+#[derive(Clone, Copy)]
 pub struct Flags(pub u16);
 
 impl Flags {
@@ -206,7 +208,7 @@ pub fn l_seq(s: &[u8]) -> u32
 }
 
 // A position on the reference, counted from 0, or none.
-#[derive(Drop)]
+#[derive(Clone, Copy)]
 pub enum Position {
     At(u32),
     Unplaced,
@@ -246,15 +248,15 @@ pub fn same_reference(a: &[u8], b: &[u8]) -> bool
 }
 
 // A position on the reference, counted from 1.
-#[derive(Drop)]
+#[derive(Clone, Copy)]
 pub struct RefPos(pub usize);
 
 // An offset in a read, counted from 0.
-#[derive(Drop)]
+#[derive(Clone, Copy)]
 pub struct ReadOffset(pub usize);
 
 // Where the operations, the bases and the qualities of a record begin, and how many bases there are.
-#[derive(Drop)]
+#[derive(Clone, Copy)]
 pub struct Layout {
     pub operations: usize,
     pub bases: usize,
@@ -280,7 +282,7 @@ pub fn layout_of(s: &[u8]) -> Layout
 }
 
 // What the check of a record finds: where its parts lie, or why it is refused.
-#[derive(Drop)]
+#[derive(Clone, Copy)]
 pub enum Checked {
     Good(Layout),
     Bad(Refusal),

@@ -1,5 +1,7 @@
 // The call on a filed group: framed records and a trailer that says whether they were corrected. A raw
 // group is corrected into another buffer, front to back; a corrected one is known and left alone.
+#![tactic(auto)]
+
 ghost use Rattle.std.specs.Prelude.{◌≡◌, true, false, ◌+◌, ◌≤◌, length, take};
 ghost use Rattle.stats.specs.Counts.{full, plus};
 ghost use Rattle.stats.specs.Room.{Adds};
@@ -25,7 +27,7 @@ use strategy::{Numbered, Strategies};
 
 // What the call answers: a raw group was corrected, with so many records, pairs and overlapping pairs and
 // this growth of the counts; it was corrected before, with the counts of its trailer; or why it is refused.
-#[derive(Drop)]
+#[derive(Clone, Copy)]
 pub enum FiledAnswer {
     Corrected {
         records: usize,
@@ -41,7 +43,7 @@ pub enum FiledAnswer {
 }
 
 // The answer, and the counts after the call.
-#[derive(Drop)]
+#[derive(Clone, Copy)]
 pub struct Filed {
     pub answer: FiledAnswer,
     pub stats: CorrectionStats,

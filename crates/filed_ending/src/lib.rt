@@ -1,4 +1,6 @@
 // Where the frames of a filed group end: behind them stands a trailer that begins with four zero bytes, where a size would stand.
+#![tactic(auto)]
+
 ghost use Rattle.std.specs.Prelude.{◌≡◌, ◌≤◌, length};
 ghost use Rattle.filed_ending.specs.Ending.{zero_at, ending_of};
 ghost use Rattle.filed_ending.specs.Found.{Found};
@@ -8,7 +10,7 @@ use refusal::Refusal;
 
 // How the frames end: at a zero size behind so many records, with the bytes and no zero size, or at
 // the refusal of the first faulty frame.
-#[derive(Drop)]
+#[derive(Clone, Copy)]
 pub enum Ending {
     At(usize),
     Missing,

@@ -1,4 +1,6 @@
 // A group's frames filed: the raw trailer that goes behind them.
+#![tactic(auto)]
+
 ghost use Rattle.std.specs.Prelude.{◌≡◌};
 ghost use Rattle.filed_raw.specs.Filing.{filing, file_of};
 
@@ -7,7 +9,7 @@ use refusal::Refusal;
 use strategy::Numbered;
 
 // A trailer made for so many records, or why none is made. A refusal writes nothing.
-#[derive(Drop)]
+#[derive(Clone, Copy)]
 pub enum Filing {
     Made(usize),
     Refused(Refusal),

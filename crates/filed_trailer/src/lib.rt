@@ -1,5 +1,7 @@
 // The 50 bytes that end a filed group: four zero bytes where a size would stand, the state, the
 // strategies, the record count, the growth of the four counts, and the distance back to the frames.
+#![tactic(auto)]
+
 ghost use Rattle.std.specs.Prelude.{◌≡◌, ◌+◌, ◌≤◌, length};
 ghost use Rattle.stats.specs.Counts.{above};
 ghost use Rattle.filed_trailer.specs.Trailer.{trailer_at, wrong, stamped, raw_in};
@@ -11,7 +13,7 @@ pub const SIZE: usize = 50;
 
 // State 0 is a raw group, 1 a corrected one. The strategies are 3 * agreement + disagreement. The
 // distance is from the trailer's start back to the first frame.
-#[derive(Drop)]
+#[derive(Clone, Copy)]
 pub struct Trailer {
     pub state: u8,
     pub strategies: u8,

@@ -1,6 +1,8 @@
 // A corrected group written front to back into another buffer; the group given stays as it is. A pair
 // is treated in two rooms and stands there until another is: mates with no other pair between them are
 // treated once, and other mates once for each of the two, so that bytes go out in order.
+#![tactic(auto)]
+
 ghost use Rattle.std.specs.Prelude.{◌≡◌, ℕ, ◌+◌, ◌-◌, ◌<◌, ◌≤◌, List, length, get_or};
 ghost use Rattle.stats.specs.Counts.{zeroed};
 ghost use Rattle.pair_judgement.specs.Ready.{Cleared};
@@ -167,7 +169,7 @@ fn no_pair() -> Applied
 
 // The record that is written next, and the pair that it is in: one more than the index of the first and of
 // the last; 0 and 0: none.
-#[derive(Drop)]
+#[derive(Clone, Copy)]
 struct Turn {
     index: usize,
     first: usize,
@@ -204,7 +206,7 @@ fn turn_of(mate: &[usize], lead: &[usize], k: usize) -> Turn
 
 // The pair that stands treated in the rooms: one more than the index of its first, 0 for none; and what it
 // adds.
-#[derive(Drop)]
+#[derive(Clone, Copy)]
 struct Held {
     first: usize,
     added: Applied,

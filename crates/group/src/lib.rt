@@ -1,4 +1,6 @@
 // The group call: framed records paired by name, and each pair corrected where it stands.
+#![tactic(auto)]
+
 ghost use Rattle.std.specs.Prelude.{◌≡◌, false};
 ghost use Rattle.stats.specs.Counts.{full};
 ghost use Rattle.group_frames.specs.Frame.{frames_of};
@@ -13,7 +15,7 @@ use strategy::{Numbered, Strategies};
 
 // What a group call answers: how many records, pairs and overlapping pairs there are, or why it is
 // refused. A refusal changes nothing.
-#[derive(Drop)]
+#[derive(Clone, Copy)]
 pub enum GroupAnswer {
     Done {
         records: usize,
@@ -24,7 +26,7 @@ pub enum GroupAnswer {
 }
 
 // The answer, and the counts after the call.
-#[derive(Drop)]
+#[derive(Clone, Copy)]
 pub struct Grouped {
     pub answer: GroupAnswer,
     pub stats: CorrectionStats,

@@ -1,4 +1,6 @@
 // The pairs of a group, all of them judged, corrected where they stand as the pair call corrects them.
+#![tactic(auto)]
+
 ghost use Rattle.std.specs.Prelude.{◌≡◌, ◌*◌, ◌≤◌, length};
 ghost use Rattle.stats.specs.Room.{Room};
 ghost use Rattle.pair_judgement.specs.Ready.{Cleared};
@@ -17,7 +19,7 @@ use stats::CorrectionStats;
 use strategy::Strategies;
 
 // What treating the pairs gives: how many there are, how many of these overlap, and the counts after.
-#[derive(Drop)]
+#[derive(Clone, Copy)]
 pub struct Applied {
     pub pairs: usize,
     pub overlapping: usize,

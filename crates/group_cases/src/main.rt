@@ -1,5 +1,7 @@
 // Runs a list of inputs of the program `overlap` and compares what it would write with what it must:
 // each case is a name of 32 bytes, two u32 sizes, the input, and what must be written.
+#![tactic(auto)]
+
 ghost use Rattle.std.specs.Prelude.{◌≡◌, ◌≤◌, length};
 
 // Room for an input, and for what must be written.

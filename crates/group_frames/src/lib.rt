@@ -1,4 +1,6 @@
 // The frames of a group: where each record lies. A frame is a u32 size and then that many bytes.
+#![tactic(auto)]
+
 ghost use Rattle.std.specs.Prelude.{◌≡◌, ℕ, ◌<◌, ◌≤◌, length};
 ghost use Rattle.group_frames.specs.Frame.{frame_of, frames_of, record_of};
 ghost use Rattle.group_frames.specs.Table.{FrameTable, Filled};
@@ -10,14 +12,14 @@ use refusal::Refusal;
 pub const MOST: usize = 256;
 
 // What stands where a frame begins: a record that ends at this byte, or the refusal.
-#[derive(Drop)]
+#[derive(Clone, Copy)]
 pub enum Frame {
     To(usize),
     Refused(Refusal),
 }
 
 // A group cut into so many records, or the refusal of its first faulty frame.
-#[derive(Drop)]
+#[derive(Clone, Copy)]
 pub enum Framing {
     Whole(usize),
     Broken(Refusal),

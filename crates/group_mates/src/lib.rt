@@ -1,5 +1,7 @@
 // Who is paired with whom in a group: each record registers by its name and role, and a first's
 // mate is found by a digest of the name.
+#![tactic(auto)]
+
 ghost use Rattle.std.specs.Prelude.{◌≡◌, ℕ, ◌+◌, ◌-◌, ◌<◌, ◌≤◌, length, get_or};
 ghost use Rattle.fields.specs.Layout.{layout_of, name_in};
 ghost use Rattle.fields.specs.Sound.{Sound};

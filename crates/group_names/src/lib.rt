@@ -1,4 +1,6 @@
 // Names of records: digests to look them up by, and the comparison of their bytes.
+#![tactic(auto)]
+
 ghost use Rattle.std.specs.Prelude.{◌≡◌, ◌+◌, ◌<◌, ◌≤◌, eqb, length};
 ghost use Rattle.fields.specs.Number.{unsigned};
 ghost use Rattle.group_names.specs.Same.{same_bytes};

@@ -1,4 +1,6 @@
 // The pairs of a group judged, each from the bytes given, before any is written.
+#![tactic(auto)]
+
 ghost use Rattle.std.specs.Prelude.{◌≡◌, ◌<◌, length};
 ghost use Rattle.fields.specs.Layout.{layout_of};
 ghost use Rattle.fields.specs.Sound.{Sound};
@@ -15,7 +17,7 @@ use pair_judgement::{Judged, Where};
 use refusal::Refusal;
 
 // Whether pairs may be treated, or the refusal of the first that may not.
-#[derive(Drop)]
+#[derive(Clone, Copy)]
 pub enum Verdict {
     Passed,
     Refused(Refusal),
@@ -32,7 +34,7 @@ fn spanned(p: Span) -> Verdict
 }
 
 // A sound record on a reference: its layout, its position, and its index in the group.
-#[derive(Drop)]
+#[derive(Clone, Copy)]
 struct Side {
     layout: Layout,
     pos: u32,

@@ -1,5 +1,7 @@
 // Runs the judged examples of the paper through the pair call, and writes a line for each: what the
 // two records are, and what came of them. The file `stdout` holds what the paper says.
+#![tactic(auto)]
+
 ghost use Rattle.std.specs.Prelude.{◌<◌, ◌≤◌};
 
 use pair::Answer;

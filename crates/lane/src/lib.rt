@@ -1,5 +1,7 @@
 // One lane of a block: what becomes of the two qualities of a position whose bases agree. Every answer is
 // chosen by value, so that a loop over lanes has no branch and is done many lanes at a time.
+#![tactic(auto)]
+
 ghost use Rattle.std.specs.Prelude.{◌≡◌, ◌+◌, min, max};
 ghost use Rattle.stats.specs.Counts.{counts};
 ghost use Rattle.lane.specs.LaneRule.{chosen, changed_of, agreed_of, chosen_of};
@@ -8,7 +10,7 @@ use stats::CorrectionStats;
 use strategy::{AgreementStrategy, Strategies};
 
 // The qualities of two bases that agree.
-#[derive(Drop)]
+#[derive(Clone, Copy)]
 pub struct Qualities {
     pub qual1: u8,
     pub qual2: u8,

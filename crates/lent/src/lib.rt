@@ -1,5 +1,7 @@
 // Entries over lent statistics: the pair call, the reset and the merge, each on the four counts where
 // they stand.
+#![tactic(auto)]
+
 ghost use Rattle.std.specs.Prelude.{◌≡◌};
 ghost use Rattle.stats.specs.Counts.{zeroed};
 ghost use Rattle.positions.specs.Step.{state};
@@ -12,14 +14,14 @@ use stats::{CorrectionStats, Merged};
 use strategy::Strategies;
 
 // What a merge answers. A refusal changes nothing.
-#[derive(Drop)]
+#[derive(Clone, Copy)]
 pub enum MergeAnswer {
     Added,
     Refused(Refusal),
 }
 
 // The answer, and the counts after the merge.
-#[derive(Drop)]
+#[derive(Clone, Copy)]
 pub struct MergeCalled {
     pub answer: MergeAnswer,
     pub stats: CorrectionStats,

@@ -1,6 +1,8 @@
 // Runs the entries over lent statistics, and writes a line for each case: the counts that were lent, the
 // answer, the counts after it, and what became of the records. The file `stdout` holds what the paper
 // says.
+#![tactic(auto)]
+
 ghost use Rattle.std.specs.Prelude.{◌≡◌, ◌≤◌, length};
 ghost use Rattle.stats.specs.Counts.{zeroed};
 ghost use Rattle.positions.specs.Step.{state};
@@ -20,7 +22,7 @@ const MOST: u64 = 18446744073709551615;
 
 // How a record differs from the one that every case begins with: it has `size` bytes, and the number n
 // in the four bytes from `at` on.
-#[derive(Drop)]
+#[derive(Clone, Copy)]
 struct Change {
     size: usize,
     at: usize,

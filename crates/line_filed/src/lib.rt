@@ -1,5 +1,7 @@
 // All that the program `overlap_filed` writes, made from all that it reads: the line and the filed group,
 // each in a room of its own.
+#![tactic(auto)]
+
 ghost use Rattle.std.specs.Prelude.{◌≡◌, ◌≤◌, length, take};
 ghost use Rattle.line_filed.specs.Told.{Told};
 
@@ -12,7 +14,7 @@ const MOST: usize = 65536;
 
 // What the program writes: so many bytes of the room for the line, then so many of the room for the
 // filed group.
-#[derive(Drop)]
+#[derive(Clone, Copy)]
 pub struct Written {
     pub line: usize,
     pub group: usize,

@@ -1,5 +1,7 @@
 // All that the program `overlap` writes, made from all that it reads: the line in a room of its own,
 // and the group where it was read.
+#![tactic(auto)]
+
 ghost use Rattle.std.specs.Prelude.{◌≡◌, ◌≤◌, length, take};
 ghost use Rattle.line_overlap.specs.Overlap.{number_at};
 ghost use Rattle.line_overlap.specs.Told.{Told};
@@ -27,7 +29,7 @@ fn number_at(s: &[u8], k: usize) -> u32
 
 // What the program writes: so many bytes of the room for the line, then so many of the input from
 // byte 2 on, where the group is.
-#[derive(Drop)]
+#[derive(Clone, Copy)]
 pub struct Written {
     pub line: usize,
     pub group: usize,

@@ -1,5 +1,7 @@
 // Texts in a lent room: numbers, the four counts and the lines of an answer, put one behind the other,
 // and parts of a room.
+#![tactic(auto)]
+
 ghost use Rattle.std.specs.Prelude.{◌≡◌, ◌+◌, ◌≤◌, ◌++◌, length, take, drop};
 ghost use Rattle.line_text.specs.Line.{spaced, done_text, already_text, refusal_text};
 ghost use Rattle.line_text.specs.Put.{Put};

@@ -1,5 +1,7 @@
 // The program `overlap`: two digits and a group in, the line and the group out. It only reads and
 // writes; crate overlap_line decides every byte.
+#![tactic(auto)]
+
 ghost use Rattle.std.specs.Prelude.{◌≡◌, length};
 
 use console::Input;

@@ -1,4 +1,6 @@
 // The exported calls, for a host program in C or Rust to link. include/overlap.h declares them.
+#![tactic(auto)]
+
 ghost use Rattle.std.specs.Prelude.{◌≡◌};
 ghost use Rattle.pair_code.specs.Call.{returned, call_of};
 ghost use Rattle.pair_reason.specs.Reason.{reason_call_of};

@@ -1,5 +1,7 @@
 // The program `overlap_filed`: a filed group in, the line and the filed group out. It only reads and
 // writes; crate filed_line decides every byte.
+#![tactic(auto)]
+
 use console::Input;
 
 fn main() {

@@ -1,4 +1,6 @@
 // The pair call: two records judged wholly, and only then corrected where they stand.
+#![tactic(auto)]
+
 ghost use Rattle.std.specs.Prelude.{◌≡◌};
 ghost use Rattle.stats.specs.Room.{Room};
 ghost use Rattle.positions.specs.Step.{state};
@@ -13,7 +15,7 @@ use strategy::Strategies;
 
 // What a pair call answers: no overlap, for a reason; overlap; or a refusal. A refusal and "no overlap"
 // change nothing.
-#[derive(Drop)]
+#[derive(Clone, Copy)]
 pub enum Answer {
     NoOverlap(Reason),
     Overlap,
@@ -21,7 +23,7 @@ pub enum Answer {
 }
 
 // The answer, and the counts after the call.
-#[derive(Drop)]
+#[derive(Clone, Copy)]
 pub struct Called {
     pub answer: Answer,
     pub stats: CorrectionStats,

@@ -1,5 +1,7 @@
 // The pair call as a host makes it: strategies and the cap by their numbers, counts as bytes, and one
 // number for the answer.
+#![tactic(auto)]
+
 ghost use Rattle.std.specs.Prelude.{◌≡◌};
 ghost use Rattle.pair_code.specs.Call.{numbered_code, returned, call_of};
 

@@ -1,5 +1,7 @@
 // Two sound records judged by the order of judgement, steps 4 to 7, with the reason where they lie apart,
 // and treated where they share positions.
+#![tactic(auto)]
+
 ghost use Rattle.std.specs.Prelude.{◌≡◌, ℕ, ◌≤◌, ltb, length};
 ghost use Rattle.fields.specs.Layout.{header};
 ghost use Rattle.fields.specs.Position.{same_id};
@@ -22,7 +24,7 @@ use strategy::Strategies;
 
 // Why two records do not overlap, in the order in which it is asked: one is unmapped; their reference
 // ids differ; a position is negative; an alignment uses nothing of the reference; no position is shared.
-#[derive(Drop)]
+#[derive(Clone, Copy)]
 pub enum Reason {
     Unmapped,
     ReferencesDiffer,
@@ -33,7 +35,7 @@ pub enum Reason {
 
 // Two sound records judged: refused, apart for a reason, or both placed on one reference, each with the
 // positions that it covers.
-#[derive(Drop)]
+#[derive(Clone, Copy)]
 pub enum Judged {
     Refused(Refusal),
     Apart(Reason),
@@ -42,7 +44,7 @@ pub enum Judged {
 
 // Where two records lie: apart for what their headers say, or both on one reference at these
 // positions.
-#[derive(Drop)]
+#[derive(Clone, Copy)]
 pub enum Where {
     Apart(Reason),
     On(u32, u32),
@@ -194,7 +196,7 @@ fn none_met(g: CorrectionStats) -> Met
 
 // A sound record that was judged to be on a reference: where its parts lie, and the positions that it
 // covers.
-#[derive(Drop)]
+#[derive(Clone, Copy)]
 pub struct Placed {
     pub layout: Layout,
     pub extent: Extent,

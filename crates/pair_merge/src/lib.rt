@@ -1,5 +1,7 @@
 // The walk over the shared positions of two records: two cursors, one over each alignment, and every
 // run of positions at which both records have a base.
+#![tactic(auto)]
+
 ghost use Rattle.std.specs.Prelude.{◌≡◌, ◌*◌, min, ltb, length};
 ghost use Rattle.fields.specs.Sound.{Lies};
 ghost use Rattle.stats.specs.Room.{Room};
@@ -11,7 +13,7 @@ use positions::Job;
 use stats::CorrectionStats;
 
 // How many positions are shared, and the counts after them.
-#[derive(Drop)]
+#[derive(Clone, Copy)]
 pub struct Met {
     pub shared: usize,
     pub stats: CorrectionStats,

@@ -1,5 +1,7 @@
 // Why two records do not overlap: the pair call's answer from the records alone, which are only read, and
 // its number for a host.
+#![tactic(auto)]
+
 ghost use Rattle.std.specs.Prelude.{◌≡◌};
 ghost use Rattle.fields.specs.Sound.{Sound};
 ghost use Rattle.pair_judgement.specs.Judgement.{judged_of};
@@ -13,7 +15,7 @@ use pair::Answer;
 use pair_judgement::{Judged, Placed, Where};
 
 // A sound record on a reference: its layout, and its position.
-#[derive(Drop)]
+#[derive(Clone, Copy)]
 struct Side {
     layout: Layout,
     pos: u32,

@@ -1,4 +1,6 @@
 // Shared positions treated: one, or several in a row, given the offsets of the two bases.
+#![tactic(auto)]
+
 ghost use Rattle.std.specs.Prelude.{◌≡◌, ◌+◌, ◌*◌, ◌≤◌, ◌<◌, length};
 ghost use Rattle.fields.specs.Sound.{Lies};
 ghost use Rattle.stats.specs.Room.{Room};
@@ -10,7 +12,7 @@ use stats::CorrectionStats;
 use strategy::Strategies;
 
 // What is the same over a whole pair: the strategies, and where each record has its parts.
-#[derive(Drop)]
+#[derive(Clone, Copy)]
 pub struct Job {
     pub strategies: Strategies,
     pub first: Layout,

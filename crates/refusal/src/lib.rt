@@ -1,12 +1,14 @@
 // Why a call is refused, and where: the table of refusals, numbered as in the paper. Number 6 is
 // withdrawn, and none has it.
+#![tactic(auto)]
+
 ghost use Rattle.std.specs.Prelude.{◌≡◌, ◌+◌, ◌*◌, ◌<◌};
 ghost use Rattle.refusal.specs.Table.{plain, row_of, number_of, place_of, operation_of, code_of, operation_code_of};
 
 // A refusal. Where it holds a number, that is its place: 1 or 2 in a pair, the record's index in a
 // group, 0 for a record given alone. The others name no record. Behind the place an operation's code
 // has the index of the operation at fault, from 0.
-#[derive(Drop)]
+#[derive(Clone, Copy)]
 pub enum Refusal {
     RecordShort(u16),
     RecordLong(u16),
@@ -30,7 +32,7 @@ pub enum Refusal {
 
 // A row of the table: a refusal's number; where it is given: its place, which is the record at fault,
 // 256 for bytes after 256 records, or 0; and the index of the operation at fault, or 0.
-#[derive(Drop)]
+#[derive(Clone, Copy)]
 pub struct Row {
     pub number: u16,
     pub at: u16,

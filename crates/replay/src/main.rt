@@ -1,11 +1,13 @@
 // Replays the stored list of the published Rust's answers (oracle/README.md has its layout): each
 // pair goes through the exported call, and the answer and every byte are compared.
+#![tactic(auto)]
+
 ghost use Rattle.std.specs.Prelude.{◌≡◌, length};
 
 use libc::STDOUT_FILENO;
 
 // How long the two records and the counts of a case are.
-#[derive(Drop)]
+#[derive(Clone, Copy)]
 struct Sizes {
     first: usize,
     second: usize,

@@ -1,5 +1,7 @@
 // Rows of shared positions, treated a stretch at a time: `treat_row` answers what `positions::treat_row`
 // answers, and takes a tenth of its instructions on long rows.
+#![tactic(auto)]
+
 ghost use Rattle.std.specs.Prelude.{◌≡◌, true, false, ◌+◌, ◌*◌, ◌≤◌, length};
 ghost use Rattle.fields.specs.Sound.{Lies};
 ghost use Rattle.stats.specs.Room.{Room};

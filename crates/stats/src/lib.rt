@@ -1,5 +1,7 @@
 // The four counts that a call adds to: how many shared positions were compared, and what became of
 // them; and the same as 32 bytes within a slice.
+#![tactic(auto)]
+
 ghost use Rattle.std.specs.Prelude.{◌≡◌, ◌+◌, ◌≤◌, ltb, length};
 ghost use Rattle.stats.specs.Counts.{zeroed, plus, full, merged_of};
 ghost use Rattle.stats.specs.Room.{Adds};
@@ -9,7 +11,7 @@ use refusal::Refusal;
 
 // Shared positions with two called bases; of these those that agree and those that disagree; and
 // bases or qualities changed.
-#[derive(Drop)]
+#[derive(Clone, Copy)]
 pub struct CorrectionStats {
     pub overlapping: u64,
     pub agreeing: u64,
@@ -18,7 +20,7 @@ pub struct CorrectionStats {
 }
 
 // Both sides' counts added up, or the refusal of a sum that does not fit.
-#[derive(Drop)]
+#[derive(Clone, Copy)]
 pub enum Merged {
     Total(CorrectionStats),
     Refused(Refusal),

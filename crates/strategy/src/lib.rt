@@ -1,4 +1,6 @@
 // What a shared position becomes: two bases and their qualities, treated by the two strategies and the cap.
+#![tactic(auto)]
+
 ghost use Rattle.std.specs.Prelude.{◌≡◌, ◌+◌, ◌<◌, min, max};
 ghost use Rattle.std.proofs.Math.Option.{some};
 ghost use Rattle.stats.specs.Counts.{zeroed};
@@ -11,7 +13,7 @@ use refusal::Refusal;
 use stats::CorrectionStats;
 
 // What to do where both bases agree: add the qualities, take the larger, or leave both.
-#[derive(Drop)]
+#[derive(Clone, Copy)]
 pub enum AgreementStrategy {
     Consensus,
     MaxQual,
@@ -19,7 +21,7 @@ pub enum AgreementStrategy {
 }
 
 // What to do where they disagree: call the better base, mask both, or mask the lower.
-#[derive(Drop)]
+#[derive(Clone, Copy)]
 pub enum DisagreementStrategy {
     Consensus,
     MaskBoth,
@@ -28,7 +30,7 @@ pub enum DisagreementStrategy {
 
 // The two strategies of a call, and the cap: the most that two qualities add up to where bases agree
 // under Consensus.
-#[derive(Drop)]
+#[derive(Clone, Copy)]
 pub struct Strategies {
     pub agreement: AgreementStrategy,
     pub disagreement: DisagreementStrategy,
@@ -36,7 +38,7 @@ pub struct Strategies {
 }
 
 // Both bases with their qualities after the treatment, and by how much each count grows.
-#[derive(Drop)]
+#[derive(Clone, Copy)]
 pub struct Treated {
     pub base1: u8,
     pub qual1: u8,
@@ -213,7 +215,7 @@ fn untouched(x: u8, a: u8, y: u8, b: u8) -> Treated
 }
 
 // Both strategies and the cap by their numbers, or the refusal of a number that is none.
-#[derive(Drop)]
+#[derive(Clone, Copy)]
 pub enum Numbered {
     Are(Strategies),
     Refused(Refusal),

@@ -1,4 +1,6 @@
 // Stretches: at how many positions in a row two records agree, 16 packed bases compared as one word.
+#![tactic(auto)]
+
 ghost use Rattle.std.specs.Prelude.{◌≡◌, ◌+◌, ◌*◌, ◌<◌, ◌≤◌, min, length};
 ghost use Rattle.fields.specs.Sound.{Lies};
 ghost use Rattle.stretch.specs.Halves.{Holds, Marks, FirstByte, First, Stretch};

@@ -1,4 +1,6 @@
 // The qualities of a stretch: positions in a row whose bases agree, treated 32 at a time.
+#![tactic(auto)]
+
 ghost use Rattle.std.specs.Prelude.{◌≡◌, ◌+◌, ◌-◌, ◌≤◌, length};
 ghost use Rattle.std.proofs.lemmas.List.Edits.{sets};
 ghost use Rattle.stretch_qualities.specs.Blocks.{BlockOf};
@@ -7,7 +9,7 @@ ghost use Rattle.stretch_qualities.specs.Stretched.{stretched, agreed_row};
 use strategy::{AgreementStrategy, Strategies};
 
 // What 32 pairs of qualities become, and in how many of them a quality changes.
-#[derive(Drop)]
+#[derive(Clone, Copy)]
 struct Block {
     qual1: [u8; 32],
     qual2: [u8; 32],

@@ -1,5 +1,7 @@
 // The read view over a lent record: whether it is refused, its name as a part of it, and the
 // numbers of its header that the overlap step reads.
+#![tactic(auto)]
+
 ghost use Rattle.std.specs.Prelude.{◌≡◌};
 ghost use Rattle.view.specs.View.{refused_of, name_of, flags_of, ref_id_of, pos_of, operation_count_of, l_seq_of};
 
@@ -7,7 +9,7 @@ use fields::{Checked, FIXED, Flags};
 use refusal::Refusal;
 
 // Whether a record can be viewed: refusals 1, 2 and 3 of the table, with place 0.
-#[derive(Drop)]
+#[derive(Clone, Copy)]
 pub enum Viewed {
     Well,
     Refused(Refusal),
@@ -90,7 +92,7 @@ pub fn l_seq_in(s: &[u8]) -> u32
 
 // A record, lent to be read. An enum cannot hold the name, which is a part of the record, so whether
 // the record is refused is a question of its own: ask `refused` first.
-#[derive(Drop)]
+#[derive(Clone, Copy)]
 pub struct RecordView<'a> {
     pub bytes: &'a [u8],
 }

@@ -1,5 +1,7 @@
 // Runs records through the read view, and writes a line for each: its name's length, how many bytes it
 // has, and all that the view says of it. The file `stdout` holds what the paper says.
+#![tactic(auto)]
+
 ghost use Rattle.std.specs.Prelude.{◌≡◌, ◌≤◌, length};
 ghost use Rattle.view.specs.View.{flags_of, ref_id_of, pos_of, operation_count_of, l_seq_of};
 
@@ -8,7 +10,7 @@ use view::Viewed;
 
 // What the first 20 bytes of a record hold. Reference id and position are given as their four bytes
 // are, so that 0xffffffff is -1.
-#[derive(Drop)]
+#[derive(Clone, Copy)]
 struct Header {
     reference: u32,
     pos: u32,
