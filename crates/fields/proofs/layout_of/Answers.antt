@@ -1,0 +1,6 @@
+-- `fields::layout_of` meets its contract: each number as its reader gives it. Assumes nothing.
+use native.Mathlib.Omega.{arith}
+use Rattle.fields.proofs.layout_of.Goals as goal
+
+pub returns : goal.returns
+returns c = (simp (← c.l_read_name.ensures, ← c.n_cigar_op.ensures, ← c.l_seq-count.ensures), omega arith)
