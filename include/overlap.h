@@ -17,7 +17,7 @@
  * that says whether they were corrected. Given a group that was, it says so and writes nothing, so a job that
  * is sent again does no harm. overlap_trailer_call makes the trailer of a group that is to be filed.
  *
- * Link with liboverlap_c.a (`rt staticlib overlap_c` writes target/staticlib/liboverlap_c.a, x86-64 code; for trials on
+ * Link with liboverlap_c.a (`sh scripts/make.sh overlap_c` writes target/staticlib/liboverlap_c.a, x86-64 code; for trials on
  * another machine `sh scripts/here.sh archive` names an archive of the same calls).
  */
 #ifndef OVERLAP_H

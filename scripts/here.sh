@@ -1,6 +1,6 @@
 #!/bin/sh
 # What stands in target/, as it can be used on this machine, be it x86-64 or not.
-#   scripts/here.sh archive                 names the archive to link: that of `rt staticlib overlap_c`, or a native one (hosts/far)
+#   scripts/here.sh archive                 names the archive to link: target/staticlib/liboverlap_c.a, or a native one (hosts/far)
 #   scripts/here.sh overlap [WORD..]        starts target/bin/overlap, where need be under the kit's emulator
 #   scripts/here.sh overlap_filed [WORD..]  starts target/bin/overlap_filed
 set -eu

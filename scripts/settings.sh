@@ -33,15 +33,15 @@ need_tool() { # COMMAND..
     done
 }
 need_archive() {
-    need "$ARCHIVE" "rt staticlib overlap_c"
+    need "$ARCHIVE" "sh scripts/make.sh overlap_c"
     native || ARCHIVE=$(sh "$root/scripts/far.sh" "$ARCHIVE")
 }
 need_program() {
-    need "$PROGRAM" "rt check overlap"
+    need "$PROGRAM" "sh scripts/make.sh overlap"
     PROGRAM=$(startable "$PROGRAM")
 }
 need_program_filed() {
-    need "$PROGRAM_FILED" "rt check overlap_filed"
+    need "$PROGRAM_FILED" "sh scripts/make.sh overlap_filed"
     PROGRAM_FILED=$(startable "$PROGRAM_FILED")
 }
 GET_RUSTC="apt-get install rustc, on Debian 13 or later (1.85 or newer is needed)"
@@ -73,11 +73,16 @@ say_machine() { # one line, for the head of a run
             "hosts are native and reach the archive through hosts/far"
     fi
 }
-kit() ( # prints the kit's folder of tools for this machine
+kit_home() ( # prints the kit's folder
     need_tool rt
-    tools=${RATTLE_HOME:-$(dirname "$(readlink -f "$(command -v rt)")")/..}/on/$(uname -m)/toolchain
+    cd "${RATTLE_HOME:-$(dirname "$(readlink -f "$(command -v rt)")")/..}" && pwd
+)
+kit() ( # prints the kit's folder of tools for this machine: in on/, where a kit is for several processors
+    home=$(kit_home)
+    tools=$home/on/$(uname -m)/toolchain
+    if native && [ ! -e "$tools" ]; then tools=$home/toolchain; fi
     need "$tools" "installing a Rattle kit for $(uname -m)"
-    cd "$tools" && pwd
+    echo "$tools"
 )
 start_script() ( # PROGRAM SCRIPT: writes a script that starts an x86-64 program with the kit's loader, emulated where need be
     kit=$(kit) emulator=

@@ -3,7 +3,7 @@
 # says of a server that isn't there and of an archive that does wrong.
 set -eu
 . "$(dirname "$0")/../scripts/settings.sh"
-need "$ARCHIVE" "rt staticlib overlap_c"
+need "$ARCHIVE" "sh scripts/make.sh overlap_c"
 out=$root/target/tests/far
 mkdir -p "$out"
 

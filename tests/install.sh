@@ -10,7 +10,7 @@ rm -rf "$out"
 mkdir -p "$out/far"
 
 # The calls that overlap.h declares, as a compiler reads it, and no other name that could meet one of a host's.
-need "$ARCHIVE" "rt staticlib overlap_c"
+need "$ARCHIVE" "sh scripts/make.sh overlap_c"
 if command -v nm >/dev/null; then
     declared=$("$CC" -E "$root/include/overlap.h" | sed -n 's/^uint32_t \(overlap_[a-z0-9_]*\)(.*/\1/p' | LC_ALL=C sort)
     exported=$(nm -g --defined-only "$ARCHIVE" | sed -n 's/^[0-9a-f]* [A-Z] //p' | LC_ALL=C sort)

@@ -3,7 +3,7 @@
 # archive, nor with hosts/far, for the name overlap_call alone; its source must not compile with the header.
 set -eu
 . "$(dirname "$0")/../scripts/settings.sh"
-need "$ARCHIVE" "rt staticlib overlap_c"
+need "$ARCHIVE" "sh scripts/make.sh overlap_c"
 need_tool "$CC" rt
 export LC_ALL=C                       # the linker's words
 source=$root/tests/c/version_1.c
