@@ -1,4 +1,5 @@
-// The calls for a host program in C or Rust, which crate overlap_c_c exports. include/overlap.h declares them.
+// The calls for a host program in C or Rust to link. include/overlap.h declares them. In a library `no_mangle` exports
+// nothing: crate overlap_c_c does, under the same names.
 #![tactic(auto)]
 
 ghost use Rattle.std.specs.Prelude.{◌≡◌};
@@ -16,6 +17,7 @@ const COUNTS: usize = 32;
 // The pair call over two records, two strategy numbers, the cap and the four counts as 32 bytes. It answers
 // 0 for no overlap, 1 for overlap, else 1000 + 100 * place + number; it writes only for 1. The header calls it
 // `overlap_call`: its own name carries the version since which it takes these, so that no older host links it.
+#[unsafe(no_mangle)]
 pub extern "C" fn overlap_call_2(
     first: &mut [u8],
     second: &mut [u8],
@@ -31,6 +33,7 @@ pub extern "C" fn overlap_call_2(
 
 // Why two records do not overlap, which are only read. It answers 0 where they overlap, 1 to 5 for the
 // reason, else 1000 + 100 * place + number, with 10,000 times the index of an operation of unknown code.
+#[unsafe(no_mangle)]
 pub extern "C" fn overlap_reason_call(first: &[u8], second: &[u8]) -> u32
     ensures { result ≡ reason_call_of first.now second.now }
 {
@@ -39,6 +42,7 @@ pub extern "C" fn overlap_reason_call(first: &[u8], second: &[u8]) -> u32
 
 // The call on a filed group, and the four counts as 32 bytes. It answers 0 where the group was corrected
 // into `out`, 1 where it had been corrected before, else 1000 + 100 * place + number; it writes only for 0.
+#[unsafe(no_mangle)]
 pub extern "C" fn overlap_filed_call(filed: &[u8], out: &mut [u8], counts: &mut [u8]) -> u32
     ensures { filed_returned result out.new counts.new ≡ filed_call_of filed.now out.old counts.old }
 {
@@ -69,6 +73,7 @@ pub extern "C" fn overlap_filed_call(filed: &[u8], out: &mut [u8], counts: &mut 
 
 // The raw trailer of framed records, made in the first 50 bytes of `trailer` for the strategies of these
 // numbers. It answers 0, else 1000 + 100 * place + number; it writes only for 0.
+#[unsafe(no_mangle)]
 pub extern "C" fn overlap_trailer_call(
     frames: &[u8],
     agreement: u32,
