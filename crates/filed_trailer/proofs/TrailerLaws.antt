@@ -124,13 +124,14 @@ module _ (w n p : ℕ) where
   unfolding raw_trailer
   raw_size = length_put 8 r1 42 p ∙ r1_size
 
-  -- made in two stores, and copied
-  pub raw_made : (t a b out : List ℕ) → a ≡ r1 → b ≡ put 8 a 42 p → out ≡ take (length b) b ++ drop (length b) t → out ≡ raw_in t w n p
+  -- made in two stores, it is 50 bytes long
+  pub raw_long : (a b : List ℕ) → a ≡ r1 → b ≡ put 8 a 42 p → length b ≡ 50
+  raw_long a b e f = ap length f ∙ length_put 8 a 42 p ∙ ap length e ∙ r1_size
+
+  -- and copied
+  pub raw_made : (t a b c : List ℕ) → a ≡ r1 → b ≡ put 8 a 42 p → c ≡ b → c ++ drop 50 t ≡ raw_in t w n p
   unfolding raw_trailer
-  raw_made t a b out e f h =
-      let m : b ≡ raw_trailer w n p = f ∙ ap (λ (x : List ℕ). put 8 x 42 p) e in
-      let l : length b ≡ 50 = ap length m ∙ raw_size in
-      h ∙ ap₂ ◌++◌ (take-length b ∙ m) (ap (λ (k : ℕ). drop k t) l)
+  raw_made t a b c e f h = ap (λ (x : List ℕ). x ++ drop 50 t) (h ∙ f ∙ ap (λ (x : List ℕ). put 8 x 42 p) e)
 
   -- a byte of none of the three
   raw_none : (k : ℕ) → (k < 5) ⊎ ((10 ≤ k) × (k < 42)) → get_or (raw_trailer w n p) k 0 ≡ 0

@@ -100,5 +100,5 @@ pub fn raw(t: &mut [u8], strategies: u8, records: u32, distance: u64)
     made[5] = strategies;
     fields::put_u32(&mut made, 6, records);
     fields::put_u64(&mut made, 42, distance);
-    bytes::copy(&made, t);
+    t[..SIZE].copy_from_slice(&made);
 }

@@ -1,0 +1,8 @@
+-- `filed_trailer::stamp` meets its contract. Assumes nothing.
+use mathlib.Core.Path.{◌∙◌}
+use native.Mathlib.Omega.{arith}
+use lib.ListN.{length-set}
+use Rattle.filed_trailer.proofs.stamp.Goals as goal
+
+pub put_counts-requires : goal.put_counts-requires
+put_counts-requires c = omega (arith, length-set c.args.t.now 4 1)
