@@ -1,6 +1,6 @@
 -- `filed_trailer::raw` meets its contract. Assumes nothing.
 use mathlib.Core.Path.{sym, ◌∙◌}
-use lib.ListN.{length-take-le}
+use lib.Seq.{length-take-le}
 use Rattle.filed_trailer.proofs.TrailerLaws.{raw_long, raw_made}
 use Rattle.filed_trailer.proofs.raw.Goals as goal
 

@@ -1,0 +1,5 @@
+-- `pair::Answer::code` meets its contract. Assumes nothing.
+use Rattle.pair.proofs.Answer.code.Goals as goal
+
+pub returns-in-Refused : goal.returns-in-Refused
+returns-in-Refused c = rw c.in-Refused.is c.code.ensures
