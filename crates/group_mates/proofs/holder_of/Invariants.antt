@@ -1,0 +1,11 @@
+-- `group_mates::holder_of` meets its contract. The loop keeps: c is 0 or one more than a record of the chain, whoever has the registration among all
+-- records has it among the first c, and the search may end at `end`, which c has not passed. The measure is c. Assumes nothing.
+use Prim.Native.Nat.{◌-◌}
+use Rattle.group_mates.proofs.ChainLaws.{Walking, Ending}
+use Rattle.group_mates.proofs.holder_of.Given as goal
+
+abbrev pub invariant-loop-c : goal.invariant-loop-c
+invariant-loop-c l = Ending l.s l.key l.q l.i l.end × Walking l.s l.key l.n l.q l.i l.end l.c
+
+abbrev pub decreases-loop-c : goal.decreases-loop-c
+decreases-loop-c l = l.c
