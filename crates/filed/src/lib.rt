@@ -145,9 +145,9 @@ fn put_trailer(filed: &[u8], p: usize, growth: CorrectionStats, out: &mut [u8])
     ensures { out.new ≡ splice out.old p (p + 50) (stamped (part filed.now p (p + 50)) growth) }
 {
     let mut t = [0u8; 50];
-    bytes::copy(&filed[p..p + filed_trailer::SIZE], &mut t);
+    t.copy_from_slice(&filed[p..p + filed_trailer::SIZE]);
     filed_trailer::stamp(&mut t, growth);
-    bytes::copy(&t, &mut out[p..p + filed_trailer::SIZE]);
+    out[p..p + filed_trailer::SIZE].copy_from_slice(&t);
 }
 
 // A raw filed group corrected into `out`: the frames, and then the trailer.

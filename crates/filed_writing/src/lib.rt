@@ -86,8 +86,8 @@ fn copy_block(src: &[u8], dst: &mut [u8], at: usize)
     ensures { dst.new ≡ splice dst.old at (at + 64) (part src.now at (at + 64)) }
 {
     let mut block = [0u8; BLOCK];
-    bytes::copy(&src[at..at + BLOCK], &mut block);
-    bytes::copy(&block, &mut dst[at..at + BLOCK]);
+    block.copy_from_slice(&src[at..at + BLOCK]);
+    dst[at..at + BLOCK].copy_from_slice(&block);
 }
 
 // The size of the frame that begins at a place of s, put there into out.
@@ -96,8 +96,8 @@ fn copy_size(s: &[u8], out: &mut [u8], begin: usize)
     ensures { out.new ≡ splice out.old begin (begin + 4) (part s.now begin (begin + 4)) }
 {
     let mut size = [0u8; 4];
-    bytes::copy(&s[begin..begin + 4], &mut size);
-    bytes::copy(&size, &mut out[begin..begin + 4]);
+    size.copy_from_slice(&s[begin..begin + 4]);
+    out[begin..begin + 4].copy_from_slice(&size);
 }
 
 // Copies a record, block by block. The last block is that which ends with the record, so it may overlap the
@@ -107,7 +107,7 @@ fn copy_record(src: &[u8], dst: &mut [u8])
     ensures { dst.new ≡ src.now }
 {
     if src.len() < BLOCK {
-        bytes::copy(src, dst);
+        dst.copy_from_slice(src);
         return;
     }
     let last = src.len() - BLOCK;

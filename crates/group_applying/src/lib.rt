@@ -51,14 +51,14 @@ fn apply_parts(
     ensures { BothPut w buf.old start end from to buf.new result }
 {
     let n = to - from;
-    bytes::copy(&buf[from..to], &mut room[0..n]);
+    room[0..n].copy_from_slice(&buf[from..to]);
     let met = pair_judgement::treat_judged(
         w,
         &mut buf[start..end],
         &mut room[0..n],
         CorrectionStats::new(),
     );
-    bytes::copy(&room[0..n], &mut buf[from..to]);
+    buf[from..to].copy_from_slice(&room[0..n]);
     met
 }
 

@@ -8,6 +8,7 @@ use Rattle.group_mates.proofs.KeyLaws.{holder_yes}
 use Rattle.group_mates.proofs.ChainLaws.{Ending, last_le, walking_start, walking_next, walking_end, ending_none, ending_own}
 use native.Mathlib.Omega.{arith}
 use Rattle.group_mates.proofs.holder_of.Goals as goal
+use Rattle.group_mates.proofs.holder_of.Goals.{then-q-eq-FIRST, else-q-eq-FIRST}
 
 pub offset_bounds-key-i : goal.offset_bounds-key-i
 offset_bounds-key-i c =
@@ -32,11 +33,13 @@ loop-c-init c =
     let e : get_or args.head.now c.chain_of-h.result 0 ≡ last_in key (chain_of (get_or key args.i 0)) args.n =
     ap (λ (z : ℕ). get_or args.head.now z 0) c.chain_of-h.ensures.0 ∙ c.requires.2.heads args.i c.requires.3 in
     let ends : Ending s key args.q args.i c.if-q-eq-FIRST.end =
-    ⊎_elim (λ w. rw w.1 (ending_own s key args.q args.i (c.requires.5 ∙ sym w.0.taken))) (λ w. rw w.1 (ending_none s key args.q args.i))
-    c.if-q-eq-FIRST.branch in (
+    elim c.if-q-eq-FIRST.branch [
+      | then-q-eq-FIRST w ↦ rw w.end-is (ending_own s key args.q args.i (c.requires.5 ∙ sym w.if-q-eq-FIRST.true))
+      | else-q-eq-FIRST w ↦ rw w.end-is (ending_none s key args.q args.i)
+    ] in (
       ends,
       walking_start s key args.n c.requires.1 args.q args.i c.requires.3 c.if-q-eq-FIRST.end ends _
-          (⊎_elim (λ w. omega (arith, w.1, c.requires.3)) (λ w. omega (arith, w.1)) c.if-q-eq-FIRST.branch) e,
+          (elim c.if-q-eq-FIRST.branch [ then-q-eq-FIRST w ↦ omega (arith, w.end-is, c.requires.3) | else-q-eq-FIRST w ↦ omega (arith, w.end-is) ]) e,
     )
 
 pub fits_at-requires : goal.fits_at-requires

@@ -10,7 +10,7 @@ pub loop-k-init : goal.loop-k-init
 loop-k-init c =
     let args = c.args in (
       search rules,
-      linked_start args.key.now _ args.next.now args.n (omega (arith, c.clear.auto.1.1.0)) c.requires.3
+      linked_start args.key.now _ args.next.now args.n (omega (arith, c.clear.auto.head)) c.requires.3
           c.clear.ensures,
       refl,
       refl,
