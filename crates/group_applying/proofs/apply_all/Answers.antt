@@ -78,7 +78,7 @@ plus-sum-requires c =
     adds args.w args.buf.now args.stats args.n loop.i loop.buf loop.sum loop.pairs loop.overlapping
     loop.invariant.0 c.loop-i-test.true (get_or args.mate.now loop.i 0)
     (c.requires.1.mates loop.i c.loop-i-test.true) c.if-m-eq0.false args.begins.now c.requires.0
-    c.apply_pair-met.new.0 c.apply_pair-met.result c.apply_pair-met.ensures
+    c.apply_pair-met.new.buf c.apply_pair-met.result c.apply_pair-met.ensures
 
 pub overflow_add-i-else-m-eq0 : goal.overflow_add-i-else-m-eq0
 overflow_add-i-else-m-eq0 c =
@@ -95,11 +95,11 @@ loop-i-preserved c =
       applying_next args.w args.buf.now args.stats args.n loop.i loop.buf loop.sum loop.pairs loop.overlapping
           loop.invariant.0 c.loop-i-test.true (get_or args.mate.now loop.i 0)
           (c.requires.1.mates loop.i c.loop-i-test.true) c.if-m-eq0.false args.begins.now c.requires.0
-          c.apply_pair-met.new.0 c.apply_pair-met.result c.apply_pair-met.ensures
+          c.apply_pair-met.new.buf c.apply_pair-met.result c.apply_pair-met.ensures
           c.overlap_of-overlapping.result c.overlap_of-overlapping.ensures.0 c.plus-sum.result c.plus-sum.ensures,
       omega (arith, c.loop-i-test.true),
-      c.apply_pair-met.auto.0 ∙ loop.invariant.2,
-      c.apply_pair-met.auto.1.0 ∙ loop.invariant.3,
+      c.apply_pair-met.auto.buf ∙ loop.invariant.2,
+      c.apply_pair-met.auto.room ∙ loop.invariant.3,
     )
 
 pub shape_of-buf : goal.shape_of-buf
