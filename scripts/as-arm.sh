@@ -5,16 +5,16 @@
 # target/ here, nor any time: the kit's emulator is emulated in its turn, and starts a program in 4 seconds.
 #   scripts/as-arm.sh make               makes the Debian: some 8 minutes and 1 GB
 #   scripts/as-arm.sh COMMAND [WORD..]   runs a command in it, at the repository's root: sh tests/hosts.sh
-# Needs root, Debian, and Linux 6.7 or newer. What the command makes stays in ARM_ROOT/made, a folder for each clone of the
-# repository. No part of the gate.
+# Needs root, Debian, Linux 6.7 or newer, and a kit that has tools for aarch64, as older ones had. What the command makes
+# stays in ARM_ROOT/made, a folder for each clone of the repository. No part of the gate.
 #   ARM_ROOT   the folder of that Debian (default ../armroot beside the repository)
 #   QUICK      not empty: x86-64 programs run as they are, and not under the kit's emulator
 set -eu
 . "$(dirname "$0")/settings.sh"
 arm=${ARM_ROOT:-$root/../armroot}
 made=$arm/made$root
-home=$(kit)
-home=${home%/on/*}
+home=$(kit_home)
+need "$home/on/aarch64/toolchain" "installing a Rattle kit that has tools for aarch64, which today's has not"
 [ "$(id -u)" = 0 ] || missing "the right to do this" "being root"
 
 # A user namespace of our own, with all users in it, may say what runs programs for arm64. The rest of the machine
