@@ -72,7 +72,7 @@ def bad_output(program, name, data, line):
                  run(program, input=data, stdout=out, preexec_fn=limited(size)))
     read, write = os.pipe()
     os.close(read)
-    same(f'{name}: a pipe that nobody reads', (None, '', -signal.SIGPIPE), run(program, input=data, stdout=write))
+    same(f'{name}: a pipe that nobody reads', (None, unwritten + 'Broken pipe\n', 0), run(program, input=data, stdout=write))
     os.close(write)
 
 
