@@ -13,23 +13,32 @@ fn input_room() -> [u8; 65537]
     [0; 65537]
 }
 
-fn main() {
+fn main(rt: HostRuntime) {
+    let mut errors = rt.stderr();
     if console::misused(
+        &rt,
+        &mut errors,
         b"usage: overlap <INPUT >OUTPUT   (INPUT: two digits, agreement and disagreement, then framed records)\n",
     ) {
         return;
     }
     let mut input = input_room();
-    let read = console::read_all(&mut input);
-    let Input::Whole(n) = read else {
-        os::fail(b"overlap: standard input can't be read");
-        return;
+    let n = match console::read_all(&mut rt.stdin(), &mut input) {
+        Input::Whole(n) => n,
+        Input::Failed(why) => {
+            console::fail(&mut errors, b"overlap: standard input can't be read", why);
+            return;
+        }
     };
     let mut out = [0u8; 256];
     let written = line_overlap::overlap(&mut input, n, &mut out);
     let line = line_overlap::line_of(&out, written.line);
     let group = line_text::part(&input, 2, written.group);
-    if !console::write_both(line, group) {
-        os::fail(b"overlap: standard output can't be written");
+    if let Err(why) = console::write_both(&mut rt.stdout(), line, group) {
+        console::fail(
+            &mut errors,
+            b"overlap: standard output can't be written",
+            why,
+        );
     }
 }
