@@ -4,7 +4,8 @@
 
 ghost use Rattle.std.specs.Prelude.{◌≡◌, length};
 
-use libc::STDOUT_FILENO;
+use std::fs::File;
+use std::io::Read;
 
 // How long the two records and the counts of a case are.
 #[derive(Clone, Copy)]
@@ -22,11 +23,11 @@ fn room() -> [u8; 66000]
 }
 
 // Reads n bytes to the front of a room. False where it has no room for them or they are not there.
-fn fill(fd: i32, to: &mut [u8], n: usize) -> bool {
+fn fill<R: Read>(list: &mut R, to: &mut [u8], n: usize) -> bool {
     if to.len() < n {
         return false;
     }
-    io::read_full(fd, &mut to[0..n]) == n
+    list.read_exact(&mut to[0..n]).is_ok()
 }
 
 // The number at a place of a case's head, or 0 past its end.
@@ -41,10 +42,16 @@ fn number(head: &[u8], at: usize) -> u32 {
 }
 
 // Reads the two records and the counts of a case.
-fn fill_all(fd: i32, n: Sizes, first: &mut [u8], second: &mut [u8], counts: &mut [u8]) -> bool {
-    let a = fill(fd, first, n.first);
-    let b = fill(fd, second, n.second);
-    let c = fill(fd, counts, n.counts);
+fn fill_all<R: Read>(
+    list: &mut R,
+    n: Sizes,
+    first: &mut [u8],
+    second: &mut [u8],
+    counts: &mut [u8],
+) -> bool {
+    let a = fill(list, first, n.first);
+    let b = fill(list, second, n.second);
+    let c = fill(list, counts, n.counts);
     all(a, b, c)
 }
 
@@ -52,7 +59,7 @@ fn fill_all(fd: i32, n: Sizes, first: &mut [u8], second: &mut [u8], counts: &mut
 fn keep(from: &[u8], to: &mut [u8], n: usize) {
     if n <= from.len() {
         if n <= to.len() {
-            bytes::copy(&from[0..n], &mut to[0..n]);
+            to[0..n].copy_from_slice(&from[0..n]);
         }
     }
 }
@@ -94,8 +101,8 @@ fn call(head: &[u8], n: Sizes, first: &mut [u8], second: &mut [u8], counts: &mut
 
 // What is stored to be there afterwards: for an overlap it follows in the list, and else it is what
 // was given.
-fn fill_after(
-    fd: i32,
+fn fill_after<R: Read>(
+    list: &mut R,
     n: Sizes,
     stored: u32,
     was1: &mut [u8],
@@ -105,7 +112,7 @@ fn fill_after(
     if stored != 1 {
         return true;
     }
-    fill_all(fd, n, was1, was2, was3)
+    fill_all(list, n, was1, was2, was3)
 }
 
 fn all(a: bool, b: bool, c: bool) -> bool {
@@ -119,8 +126,8 @@ fn all(a: bool, b: bool, c: bool) -> bool {
 }
 
 // Whether the call answers as stored and leaves what is stored.
-fn agrees(
-    fd: i32,
+fn agrees<R: Read>(
+    list: &mut R,
     head: &[u8],
     n: Sizes,
     first: &mut [u8],
@@ -130,12 +137,12 @@ fn agrees(
     was2: &mut [u8],
     was3: &mut [u8],
 ) -> bool {
-    let given = fill_all(fd, n, first, second, counts);
+    let given = fill_all(list, n, first, second, counts);
     keep(first, was1, n.first);
     keep(second, was2, n.second);
     keep(counts, was3, n.counts);
     let stored = number(head, 20);
-    let read = fill_after(fd, n, stored, was1, was2, was3);
+    let read = fill_after(list, n, stored, was1, was2, was3);
     let answered = call(head, n, first, second, counts) == stored;
     let same1 = same_front(first, was1, n.first);
     let same2 = same_front(second, was2, n.second);
@@ -153,8 +160,8 @@ fn sizes_of(head: &[u8]) -> Sizes {
 }
 
 // Replays n cases of the list, and answers how many agree.
-fn replay(
-    fd: i32,
+fn replay<R: Read>(
+    list: &mut R,
     n: u32,
     head: &mut [u8],
     first: &mut [u8],
@@ -167,11 +174,11 @@ fn replay(
     let mut k = 0;
     let mut good = 0;
     while k < n {
-        if !fill(fd, head, 24) {
+        if !fill(list, head, 24) {
             return good;
         }
         if agrees(
-            fd,
+            list,
             head,
             sizes_of(head),
             first,
@@ -190,12 +197,14 @@ fn replay(
     good
 }
 
-fn main() {
-    let fd = os::open_read(b"pairs.bin");
-    if fd < 0 {
-        os::fail(b"pairs.bin");
-        return;
-    }
+fn main(rt: HostRuntime) {
+    let mut list = match File::open(&rt, "pairs.bin") {
+        Ok(list) => list,
+        Err(why) => {
+            console::fail(&mut rt.stderr(), b"pairs.bin", why);
+            return;
+        }
+    };
     let mut head = [0u8; 24];
     let mut first = room();
     let mut second = room();
@@ -203,10 +212,10 @@ fn main() {
     let mut was1 = room();
     let mut was2 = room();
     let mut was3 = room();
-    fill(fd, &mut head, 8);
+    fill(&mut list, &mut head, 8);
     let n = number(&head, 4);
     let good = replay(
-        fd,
+        &mut list,
         n,
         &mut head,
         &mut first,
@@ -216,9 +225,5 @@ fn main() {
         &mut was2,
         &mut was3,
     );
-    libc::close(fd);
-    io::print_decimal(STDOUT_FILENO, good as u64);
-    io::write_all(STDOUT_FILENO, b" of ");
-    io::print_decimal(STDOUT_FILENO, n as u64);
-    io::write_all(STDOUT_FILENO, b" stored pairs agree\n");
+    let _ = println!(rt; "{good} of {n} stored pairs agree");
 }
