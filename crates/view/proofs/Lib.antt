@@ -1,4 +1,2 @@
-pub mod ViewLaws
 pub mod RefusalLaws
-pub mod MethodWalk
-pub mod ThroughWalk
+pub mod ViewLaws

@@ -15,7 +15,6 @@ use Rattle.fields.specs.Check.{check_of}
 use Rattle.fields.specs.declared.Layout.{Layout}
 use Rattle.fields.specs.declared.Checked.{Checked}
 use Rattle.fields.specs.declared.Checked.TheVariants.{Good, Bad}
-use Rattle.view.specs.declared.Viewed.{Viewed}
 use Rattle.view.specs.declared.Viewed.TheVariants.{Well, Refused}
 use Rattle.view.specs.View.{viewed_by, refused_of, name_of}
 
