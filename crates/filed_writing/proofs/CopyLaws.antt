@@ -1,4 +1,4 @@
--- A part copied through a local array; a pair call on the fronts of two rooms that hold copies of the records.
+-- A pair call on the fronts of two rooms that hold copies of the records.
 use Prim.Native.Nat.{ℕ, ◌-◌, ◌≤◌}
 use mathlib.Core.Path.{◌≡◌, sym, ◌∙◌, ap}
 use mathlib.Core.List.{List, ◌++◌}
@@ -10,17 +10,7 @@ use Rattle.pair_judgement.specs.Ready.{Cleared}
 use Rattle.group_frames.specs.Part.{part, splice}
 use Rattle.group_frames.proofs.PartLaws.{length_part, part_put}
 use Rattle.group_applying.specs.declared.Applied.{Applied}
-use Rattle.group_applying.proofs.PutLaws.{copied_over}
 use Rattle.filed_writing.specs.Written.{Treats, Copied}
-
--- ---- a part of src read into x, which becomes c, and put from there where it stands in src into dst, of which d is that part
-pub through : (src dst x c d : List ℕ) (p q : ℕ) → p ≤ q → q ≤ length src → q ≤ length dst → length x ≡ q - p
-    → c ≡ take (length (part src p q)) (part src p q) ++ drop (length (part src p q)) x → d ≡ take (length c) c ++ drop (length c) (part dst p q)
-    → splice dst p q d ≡ splice dst p q (part src p q)
-through src dst x c d p q o i j l e f =
-    let m : length (part src p q) ≡ q - p = length_part src p q o i in
-    let read : c ≡ part src p q = e ∙ copied_over (part src p q) x (omega arith) in
-    ap (splice dst p q) (f ∙ copied_over c (part dst p q) (omega (arith, ap length read, length_part dst p q o j)) ∙ read)
 
 -- ---- a copy c of a at the front of a room
 module _ (room a c : List ℕ) (fits : length a ≤ length room) (same : c ≡ a) where

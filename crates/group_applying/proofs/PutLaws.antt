@@ -23,10 +23,6 @@ use Rattle.stats.specs.declared.CorrectionStats.{CorrectionStats}
 use Rattle.group_applying.specs.Applied.{overlap_count}
 use Rattle.group_applying.specs.Within.{call_in, Within, overlap_of, BothPut}
 
--- a list copied over one of its length
-pub copied_over : (xs ys : List ℕ) → length ys ≡ length xs → take (length xs) xs ++ drop (length xs) ys ≡ xs
-copied_over xs ys e = ap₂ ◌++◌ (take-length xs) (ap (λ (n : ℕ). drop n ys) (sym e) ∙ drop-length ys) ∙ append-nil xs
-
 -- a pair overlaps where it shares a position
 pub overlap_met : (r : Reason) (n : ℕ) → overlap_of n ≡ overlap_count (met_answer r n)
 overlap_met r zero = refl
