@@ -1,0 +1,39 @@
+-- `filed::correct` meets its contract. Assumes nothing.
+use mathlib.Core.Path.{sym, ◌∙◌}
+use Rattle.filed.proofs.WriteLaws.{found_at}
+use Rattle.filed.proofs.StageLaws.{too_full, broken, missing, at}
+use Rattle.filed_ending.proofs.cut.Reads as cut-reads
+use Rattle.filed.proofs.correct_ended.Reads as correct-ended-reads
+use Rattle.filed.proofs.refused.Reads as refused-reads
+use Rattle.stats.proofs.CorrectionStats.full.Reads as full-reads
+use Rattle.filed.proofs.correct.Goals as goal
+
+pub returns-then-full : goal.returns-then-full
+returns-then-full c =
+    let args = c.args in
+    too_full args.filed.now args.out.now args.stats (sym c.full.ensures ∙ c.if-full.true)
+    c.refused.result c.refused.ensures
+
+pub correct_ended-requires : goal.correct_ended-requires
+correct_ended-requires c = (
+  found_at c.args.filed.now _ c.cut-e.result _ c.in-At.is c.cut-e.ensures.1,
+  sym c.full.ensures ∙ c.if-full.false,
+)
+
+pub returns-in-Broken : goal.returns-in-Broken
+returns-in-Broken c =
+    let args = c.args in
+    broken args.filed.now args.out.now args.stats (sym c.full.ensures ∙ c.if-full.false) c.cut-e.result
+    c.cut-e.ensures.0 _ c.in-Broken.is c.refused-in-Broken.result c.refused-in-Broken.ensures
+
+pub returns-in-Missing : goal.returns-in-Missing
+returns-in-Missing c =
+    let args = c.args in
+    missing args.filed.now args.out.now args.stats (sym c.full.ensures ∙ c.if-full.false) c.cut-e.result
+    c.cut-e.ensures.0 c.in-Missing.is c.refused-in-Missing.result c.refused-in-Missing.ensures
+
+pub returns-in-At : goal.returns-in-At
+returns-in-At c =
+    let args = c.args in
+    at args.filed.now args.out.now args.stats (sym c.full.ensures ∙ c.if-full.false) c.cut-e.result
+    c.cut-e.ensures.0 _ c.in-At.is _ c.correct_ended.ensures
