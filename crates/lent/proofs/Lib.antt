@@ -1,2 +1,1 @@
-pub mod LendLaws
 pub mod MergeLaws

@@ -1,0 +1,12 @@
+-- `lent::merge_kept` meets its contract, by what the merge by value answers. Assumes nothing.
+use mathlib.Core.Path.{ap, sym, ◌∙◌}
+use Rattle.lent.specs.Lent.{on_merged}
+use Rattle.lent.proofs.merge_kept.Goals as goal
+
+pub returns-in-Total : goal.returns-in-Total
+returns-in-Total c =
+    ap (on_merged c.args.stats) (sym c.in-Total.is ∙ c.merge-merged.ensures)
+
+pub returns-in-Refused : goal.returns-in-Refused
+returns-in-Refused c =
+    ap (on_merged c.args.stats) (sym c.in-Refused.is ∙ c.merge-merged.ensures)

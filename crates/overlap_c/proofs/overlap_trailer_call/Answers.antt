@@ -1,0 +1,17 @@
+-- `overlap_c::overlap_trailer_call` meets its contract. Assumes nothing.
+use Rattle.overlap_c.proofs.FiledCallLaws.{trailer_made, trailer_refused}
+use Rattle.filed_raw.proofs.file.Reads as file-reads
+use Rattle.refusal.proofs.Refusal.code.Reads as code_Reads
+use Rattle.overlap_c.proofs.overlap_trailer_call.Goals as goal
+
+pub returns-in-Made : goal.returns-in-Made
+returns-in-Made c =
+    let args = c.args in
+    trailer_made args.frames.now args.agreement args.disagreement args.trailer.now _ c.file-filing.result
+    c.file-filing.ensures _ c.in-Made.is
+
+pub returns-in-Refused : goal.returns-in-Refused
+returns-in-Refused c =
+    let args = c.args in
+    trailer_refused args.frames.now args.agreement args.disagreement args.trailer.now _ c.file-filing.result
+    c.file-filing.ensures _ _ c.in-Refused.is c.code.ensures
