@@ -3,7 +3,7 @@ use Prim.Native.Nat.{ℕ, zero, suc, ◌+◌, ◌-◌, ◌*◌, ◌≤◌, ◌<�
 use mathlib.Core.Path.{◌≡◌, refl, sym, ap, ap₂, ◌∙◌}
 use mathlib.Core.List.{List, [], ◌∷◌}
 use mathlib.Core.Option.{none, some}
-use mathlib.Core.Logic.{◌⊎◌, ⊎_elim}
+use mathlib.Core.Logic.{⊎_elim}
 use native.Mathlib.Omega.{arith}
 use lib.ListN.{length, take, drop}
 use lib.Seq.{get_or-take, length-take-le}
@@ -11,7 +11,7 @@ use Rattle.cigar.specs.Operation.{Both, kind, len, read_len, ref_len, read_sum, 
 use Rattle.cigar.specs.declared.Cursor.{Cursor}
 use Rattle.fields.specs.Number.{unsigned}
 use Rattle.cigar.specs.Found.{run_at, off_at}
-use Rattle.cigar.specs.Passing.{cursor, rest_ops, cur_off, read_end, ref_end, advanced, SameBases, Stands}
+use Rattle.cigar.specs.Passing.{cursor, rest_ops, cur_off, advanced, SameBases, Stands}
 use Rattle.fields.proofs.Arith.{lt_or_le}
 use Rattle.cigar.proofs.PlaceLaws.{run_below, run_in, run_past, run_zero, run_join, op_none, off_below, ops_step}
 

@@ -1,9 +1,8 @@
 -- The walk that only reads, up to the first shared position: that of the merge while nothing was met. Its counts are zero, and its strategies
 -- any; nothing here depends on them.
-use Prim.Native.Nat.{ℕ, ◌+◌, ◌-◌, ◌*◌, ◌<◌, ◌≤◌}
+use Prim.Native.Nat.{ℕ}
 use mathlib.Core.List.{List}
 use native.Mathlib.Omega.{arith}
-use lib.ListN.{length}
 use Rattle.fields.specs.declared.Layout.{Layout}
 use Rattle.fields.specs.declared.RefPos.{RefPos}
 use Rattle.stats.specs.Counts.{zeroed}
@@ -11,7 +10,7 @@ use Rattle.strategy.specs.declared.AgreementStrategy.TheVariants as Agree
 use Rattle.strategy.specs.declared.DisagreementStrategy.TheVariants as Differ
 use Rattle.strategy.specs.declared.Strategies.{Strategies}
 use Rattle.cigar.specs.declared.Cursor.{Cursor}
-use Rattle.cigar.specs.Passing.{cursor, advanced, Settled}
+use Rattle.cigar.specs.Passing.{cursor, Settled}
 use Rattle.positions.specs.Step.{State, state}
 use Rattle.pair_merge.specs.Shared.{Walked}
 use Rattle.pair_merge.proofs.MergeLaws.{Merging, cig₁, cig₂, merging_start}

@@ -1,22 +1,19 @@
 -- A stretch is that many positions of a row, with the counts of its agreements beside the others.
-use Prim.Native.Nat.{ℕ, zero, suc, ◌+◌, ◌/◌, ◌≤◌, ◌<◌}
+use Prim.Native.Nat.{ℕ, zero, suc, ◌+◌, ◌/◌, ◌≤◌}
 use mathlib.Core.Path.{◌≡◌, refl, sym, ap, ◌∙◌}
 use mathlib.Core.List.{List}
 use native.Mathlib.Omega.{arith}
 use lib.ListN.{get_or, set}
 use Rattle.fields.specs.declared.Layout.{Layout}
-use Rattle.fields.specs.Sound.{Lies}
 use Rattle.stats.specs.declared.CorrectionStats.{CorrectionStats}
 use Rattle.strategy.specs.declared.Strategies.{Strategies}
-use Rattle.bases.specs.Base.{base_at}
-use Rattle.lane.specs.declared.Qualities.{Qualities}
 use Rattle.lane.specs.LaneRule.{agreed_of, changed_of}
 use Rattle.positions.specs.Step.{State}
 use Rattle.positions.proofs.PointLaws.{Both}
 use Rattle.positions.proofs.PutLaws.{base_set}
 use Rattle.positions.proofs.BesideLaws.{Adding, adding_agreed}
 use Rattle.stretch.specs.Alike.{Alike}
-use Rattle.stretch_qualities.specs.Stretched.{Stretched, stretched, agreed_at, agreed_row}
+use Rattle.stretch_qualities.specs.Stretched.{Stretched, stretched, agreed_row}
 use Rattle.stretch_qualities.proofs.RowLaws.{further, row_count}
 
 -- bases stay where qualities behind them are set

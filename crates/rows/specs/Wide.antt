@@ -1,5 +1,5 @@
 -- Records whose stretches can be read.
-use Rattle.std.specs.Prelude.{ℕ, ◌≤◌}
+use Rattle.std.specs.Prelude.{◌≤◌}
 use Rattle.fields.specs.declared.Layout.{Layout}
 
 -- eight bases are enough to read a word from any base on, and 32 bytes before the qualities to read 32 up to any quality

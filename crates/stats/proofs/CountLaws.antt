@@ -1,12 +1,12 @@
 -- Laws of the four counts: sums, room, and what refusal 9 leaves.
-use Prim.Native.Nat.{ℕ, ◌+◌, ◌-◌, ◌*◌, ◌≤◌, ◌<◌}
+use Prim.Native.Nat.{ℕ, ◌+◌, ◌-◌, ◌*◌, ◌≤◌}
 use mathlib.Core.Path.{◌≡◌, refl, sym}
 use mathlib.Core.Bool.{Bool, true, false, ◌||◌}
 use native.Mathlib.Omega.{arith}
 use lib.Dec.{ltb}
 use borrow.Author.Tests.{ltb-true, ltb-false, lt-ltb, le-ltb}
 use Rattle.stats.specs.declared.CorrectionStats.{CorrectionStats}
-use Rattle.stats.specs.Counts.{counts, zeroed, plus, above, full}
+use Rattle.stats.specs.Counts.{zeroed, plus, full}
 use Rattle.stats.specs.Room.{AtMost, Room, Adds}
 
 pub counts_as : (g h : CorrectionStats) → g.overlapping ≡ h.overlapping → g.agreeing ≡ h.agreeing → g.disagreeing ≡ h.disagreeing → g.corrected ≡ h.corrected → g ≡ h

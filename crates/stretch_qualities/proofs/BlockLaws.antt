@@ -15,7 +15,7 @@ use Rattle.strategy.specs.declared.AgreementStrategy.{AgreementStrategy}
 use Rattle.strategy.specs.declared.DisagreementStrategy.{DisagreementStrategy}
 use Rattle.strategy.specs.declared.Strategies.{Strategies}
 use Rattle.lane.specs.declared.Qualities.{Qualities}
-use Rattle.lane.specs.LaneRule.{agreed_of, changed_of, chosen_of, qualities}
+use Rattle.lane.specs.LaneRule.{agreed_of, changed_of, chosen_of}
 use Rattle.lane.proofs.LaneLaws.{bit_low}
 use Rattle.stretch_qualities.specs.declared.Block.{Block}
 use Rattle.stretch_qualities.specs.Blocks.{sum_of, lane_at, change_at, BlockOf}

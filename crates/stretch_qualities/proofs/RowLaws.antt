@@ -10,7 +10,7 @@ use lib.Dec.{eqb}
 use borrow.Author.Tests.{lt-ltb, le-ltb, eq-eqb}
 use Rattle.strategy.specs.declared.Strategies.{Strategies}
 use Rattle.strategy.specs.Rule.{agreed_qual}
-use Rattle.lane.specs.LaneRule.{agreed_of, changed_of}
+use Rattle.lane.specs.LaneRule.{changed_of}
 use Rattle.lane.proofs.LaneLaws.{bit_low}
 use Rattle.stretch_qualities.specs.declared.Block.{Block}
 use Rattle.stretch_qualities.specs.Blocks.{sum_of, change_at, BlockOf}

@@ -1,7 +1,5 @@
 -- `bases::set_base` meets its contract. Assumes nothing.
 use Rattle.bases.proofs.BaseLaws.{put_even, put_odd}
-use native.Mathlib.Omega.{arith}
-use Prim.Native.Nat.{◌+◌, ◌/◌}
 use Rattle.bases.proofs.set_base.Goals as goal
 
 pub returns-then-k-eq0 : goal.returns-then-k-eq0

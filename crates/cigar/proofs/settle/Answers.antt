@@ -1,5 +1,4 @@
 use native.Mathlib.Omega.{arith}
-use Prim.Native.Nat.{◌-◌}
 use lib.ListN.{take}
 use lib.Seq.{length-take-le}
 use Rattle.cigar.proofs.PlaceLaws.{ops_short}

@@ -1,4 +1,3 @@
-use Prim.Native.Nat.{◌-◌}
 use Rattle.cigar.proofs.JudgeLaws.{walking_start, walking_end, walking_code, walking_turn}
 use native.Mathlib.Omega.{arith}
 use Rattle.cigar.proofs.walk_operations.Goals as goal

@@ -2,10 +2,6 @@ use mir.Syntax.{w32}
 use mir.Val.{SFits}
 use mir.Facts.{to_z-of_z}
 use borrow.Author.Rules.{rules}
-use Rattle.fields.proofs.same_reference.Reads as reads
-use Rattle.fields.proofs.same_reference.Lts as lts
-use Rattle.fields.proofs.ref_id.Reads as ref-id-reads
-use Rattle.fields.proofs.same_id.Reads as same-id-reads
 use Rattle.fields.proofs.same_reference.Goals as goal
 
 pub returns : goal.returns

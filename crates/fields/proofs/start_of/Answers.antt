@@ -4,10 +4,6 @@ use mir.Facts.{to_z-of_z}
 use mathlib.Core.Path.{ap, ◌∙◌}
 use Rattle.fields.specs.Position.{position_of}
 use borrow.Author.Rules.{rules}
-use Rattle.fields.proofs.start_of.Reads as reads
-use Rattle.fields.proofs.start_of.Lts as lts
-use Rattle.fields.proofs.position_of.Reads as position-of-reads
-use Rattle.fields.proofs.pos.Reads as pos-reads
 use Rattle.fields.proofs.start_of.Goals as goal
 
 pub returns : goal.returns

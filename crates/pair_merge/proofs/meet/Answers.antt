@@ -1,4 +1,3 @@
-use Prim.Native.Nat.{◌-◌}
 use Rattle.pair_merge.proofs.MergeLaws.{merging_first, merging_second, merging_met, merging_end₁, merging_end₂, none_met}
 use Rattle.pair_merge.proofs.MergeLaws.{ready₁, ready₂, less₁, less₂, start_stands}
 use Rattle.pair_merge.proofs.MeetLaws.{any, unread, meeting_start}

@@ -1,4 +1,4 @@
-use Prim.Native.Nat.{◌-◌, ◌*◌}
+use Prim.Native.Nat.{◌*◌}
 use Rattle.stats.proofs.CountLaws.{room_less}
 use Rattle.bases.proofs.BaseLaws.{lies_same}
 use Rattle.positions.specs.Step.{state}

@@ -1,4 +1,4 @@
-use Prim.Native.Nat.{◌+◌, ◌-◌}
+use Prim.Native.Nat.{◌+◌}
 use native.Mathlib.Omega.{arith}
 use Rattle.bases.proofs.BaseLaws.{lies_same}
 use Rattle.positions.specs.Step.{state}

@@ -1,4 +1,3 @@
-use Prim.Native.Nat.{◌-◌}
 use mathlib.Core.Path.{refl}
 use Rattle.stretch.proofs.WordLaws.{scan_start, scan_turn, scan_found, scan_end}
 use Rattle.stretch.proofs.agreeing.Goals as goal
