@@ -1,9 +1,8 @@
 -- Where no group is corrected, every byte of the output and every count is as it came. Assumes nothing.
 use Prim.Native.Nat.{ℕ, ◌+◌}
-use mathlib.Core.Path.{◌≡◌, refl, sym, ◌∙◌, ap}
+use mathlib.Core.Path.{refl}
 use mathlib.Core.Bool.{Bool, true, false, cond}
 use mathlib.Core.List.{List, ◌++◌}
-use native.Mathlib.Omega.{arith}
 use lib.Dec.{eqb, ltb}
 use lib.ListN.{length, drop}
 use Rattle.refusal.specs.declared.Refusal.TheVariants.{Count, OutputShort, TrailerMissing, TrailerField}
@@ -18,9 +17,8 @@ use Rattle.filed_ending.specs.declared.Ending.TheVariants.{At, Missing, Broken}
 use Rattle.filed_ending.specs.Ending.{ending_of}
 use Rattle.filed_trailer.specs.declared.Trailer.{Trailer}
 use Rattle.filed_trailer.specs.Trailer.{trailer_at, wrong}
-use Rattle.filed.specs.declared.FiledAnswer.{FiledAnswer}
 use Rattle.filed.specs.declared.FiledAnswer.TheVariants.{Corrected, AlreadyDone, Refused}
-use Rattle.filed.specs.Filed.{Ended, ended, corrected_with, on_group, group_in, on_raw, on_trailer, on_ending, filed_of}
+use Rattle.filed.specs.Filed.{ended, corrected_with, on_group, group_in, on_raw, on_trailer, on_ending, filed_of}
 use Rattle.filed.specs.Promise.{Kept}
 
 module _ (s out : List ℕ) (g : CorrectionStats) where

@@ -2,7 +2,7 @@
 use Prim.Native.Nat.{ℕ, ◌+◌, ◌/◌, ◌%◌, ◌<◌, ◌≤◌}
 use mathlib.Core.Path.{◌≡◌, refl, sym, ◌∙◌, ap, subst}
 use mathlib.Core.Bool.{Bool, true, false, cond}
-use mathlib.Core.List.{List, ◌++◌}
+use mathlib.Core.List.{List}
 use native.Mathlib.Omega.{arith}
 use borrow.Author.Tests.{eq-eqb, ne_eqb}
 use lib.ListN.{length, take, drop, length-append, length-drop, take-append-drop}
@@ -31,7 +31,7 @@ use Rattle.filed_ending.proofs.EndLaws.{Ends, ends_of, ending_at, ends_left, one
 use Rattle.filed_trailer.specs.declared.Trailer.{Trailer}
 use Rattle.filed_trailer.specs.Trailer.{trailer_at, wrong, stamped}
 use Rattle.filed_trailer.proofs.TrailerLaws.{trailer, stamped_size, stamped_reads, stamped_zero, stamped_fits, trailer_at_lem}
-use Rattle.filed.specs.declared.FiledAnswer.TheVariants.{Corrected, AlreadyDone, Refused}
+use Rattle.filed.specs.declared.FiledAnswer.TheVariants.{Corrected, Refused}
 use Rattle.filed.specs.Filed.{ended, corrected_with, group_in, on_ending, filed_of}
 use Rattle.filed.specs.Promise.{Torn, Known, Safe}
 use Rattle.filed.proofs.MadeLaws.{made}

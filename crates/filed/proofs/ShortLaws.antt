@@ -1,6 +1,5 @@
 -- How long records are, by their table: one turn of the loop that looks, and the longest that a group may have.
 use Prim.Native.Nat.{ℕ, ◌+◌, ◌-◌, ◌<◌, ◌≤◌}
-use mathlib.Core.Path.{◌≡◌}
 use mathlib.Core.List.{List}
 use native.Mathlib.Omega.{arith}
 use borrow.Author.Count.{below_more, below_none}

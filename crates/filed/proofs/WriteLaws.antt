@@ -25,7 +25,6 @@ use Rattle.filed_ending.specs.declared.Ending.{Ending}
 use Rattle.filed_ending.specs.declared.Ending.TheVariants.{At}
 use Rattle.filed_ending.specs.Found.{FramesEnd, Found}
 use Rattle.filed_trailer.specs.Trailer.{stamped}
-use Rattle.filed.specs.Filed.{corrected_with}
 use Rattle.filed.specs.Final.{Final, FiledTo}
 
 -- the first p bytes, as the code cuts them

@@ -1,10 +1,10 @@
 -- A pair call on the fronts of two rooms that hold copies of the records.
 use Prim.Native.Nat.{ℕ, ◌-◌, ◌≤◌}
 use mathlib.Core.Path.{◌≡◌, sym, ◌∙◌, ap}
-use mathlib.Core.List.{List, ◌++◌}
+use mathlib.Core.List.{List}
 use native.Mathlib.Omega.{arith}
 use borrow.Rule.Slice.PartMut.{same_len_mid}
-use lib.ListN.{length, take, drop}
+use lib.ListN.{length, take}
 use Rattle.strategy.specs.declared.Strategies.{Strategies}
 use Rattle.pair_judgement.specs.Ready.{Cleared}
 use Rattle.group_frames.specs.Part.{part, splice}

@@ -1,9 +1,8 @@
 -- The whole call by its stages, as the code meets them.
 use Prim.Native.Nat.{ℕ}
-use mathlib.Core.Path.{◌≡◌, refl, sym, ◌∙◌, ap, ap₂, subst}
+use mathlib.Core.Path.{◌≡◌, sym, ◌∙◌, ap, ap₂, subst}
 use mathlib.Core.Bool.{true, false}
 use mathlib.Core.List.{List}
-use lib.ListN.{length}
 use Rattle.refusal.specs.declared.Refusal.{Refusal}
 use Rattle.refusal.specs.declared.Refusal.TheVariants.{Count}
 use Rattle.stats.specs.declared.CorrectionStats.{CorrectionStats}
@@ -19,15 +18,15 @@ use Rattle.group_frames.specs.Table.{FrameTable, Filled}
 use Rattle.group_mates.specs.Register.{pairs_of}
 use Rattle.group_verdicts.specs.declared.Verdict.{Verdict}
 use Rattle.group_verdicts.specs.declared.Verdict.TheVariants as Verdicts
-use Rattle.group_verdicts.specs.Judged.{verdict_at, judge_by}
+use Rattle.group_verdicts.specs.Judged.{judge_by}
 use Rattle.group_verdicts.specs.Indexed.{indexed_at}
 use Rattle.group_verdicts.proofs.IndexLaws.{all_indexed}
 use Rattle.group_applying.specs.declared.Applied.{Applied}
-use Rattle.group_applying.specs.Applied.{written, grown, overlaps_in, AppliedTo}
+use Rattle.group_applying.specs.Applied.{AppliedTo}
 use Rattle.group.specs.declared.Grouped.{Grouped}
 use Rattle.group.specs.declared.GroupAnswer.{GroupAnswer}
 use Rattle.group.specs.declared.GroupAnswer.TheVariants.{Done, Refused}
-use Rattle.group.specs.Group.{Ended, ended, on_pairs, on_frames, framed_of, on_numbered, group_of}
+use Rattle.group.specs.Group.{ended, on_pairs, on_frames, framed_of, on_numbered, group_of}
 
 pub filled : (s begins : List ℕ) (n : ℕ) (f : Framing) → f ≡ Whole n → Filled s begins f → FrameTable s begins n
 filled s begins n f e t = subst (Filled s begins) e t

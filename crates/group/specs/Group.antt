@@ -1,6 +1,5 @@
 -- The whole group call: its answer, every byte and the counts.
 use Rattle.std.specs.Prelude.{ℕ, cond, List, [], ◌∷◌, length}
-use Rattle.refusal.specs.declared.Refusal.{Refusal}
 use Rattle.refusal.specs.declared.Refusal.TheVariants.{Count}
 use Rattle.refusal.specs.Table.{number_of, place_of, operation_of}
 use Rattle.stats.specs.declared.CorrectionStats.{CorrectionStats}

@@ -1,11 +1,9 @@
 -- One turn of the loop that treats the pairs.
-use Prim.Native.Nat.{ℕ, zero, suc, ◌+◌, ◌-◌, ◌*◌, ◌<◌, ◌≤◌}
-use mathlib.Core.Path.{◌≡◌, refl, sym, ◌∙◌, ap, ap₂}
+use Prim.Native.Nat.{ℕ, suc, ◌+◌, ◌-◌, ◌*◌, ◌<◌, ◌≤◌}
+use mathlib.Core.Path.{◌≡◌, refl, ◌∙◌, ap, ap₂}
 use mathlib.Core.List.{List, [], ◌∷◌}
-use native.Mathlib.Numerals.{add-one}
 use native.Mathlib.Omega.{arith}
-use lib.ListN.{length, get_or}
-use Rattle.fields.specs.Sound.{Sound}
+use lib.ListN.{length}
 use Rattle.stats.specs.declared.CorrectionStats.{CorrectionStats}
 use Rattle.stats.specs.Counts.{zeroed, plus}
 use Rattle.stats.specs.Room.{Room, Adds, AtMost}
@@ -16,8 +14,8 @@ use Rattle.pair_merge.specs.declared.Met.{Met}
 use Rattle.pair.specs.declared.Answer.{Answer}
 use Rattle.pair.specs.declared.Answer.TheVariants.{NoOverlap, Overlap, Refused}
 use Rattle.pair.specs.Pair.{Outcome, records_of}
-use Rattle.group_frames.specs.Part.{part, splice}
-use Rattle.group_frames.specs.Frame.{begin_of, start_of, end_of, record_of}
+use Rattle.group_frames.specs.Part.{part}
+use Rattle.group_frames.specs.Frame.{start_of, end_of, record_of}
 use Rattle.group_frames.specs.Table.{FrameTable}
 use Rattle.group_frames.proofs.PartLaws.{length_part}
 use Rattle.group_frames.proofs.PlaceLaws.{at_start, at_end, at_order, at_in}
@@ -31,9 +29,9 @@ use Rattle.group_verdicts.proofs.IndexLaws.{passed_cleared, first_passed}
 use Rattle.group_verdicts.proofs.JudgeLaws.{pairs_turn, pairs_start, pairs_end}
 use Rattle.group_applying.specs.declared.Applied.{Applied}
 use Rattle.group_applying.specs.Applied.{written, grown, overlap_count, overlaps_in, AppliedTo}
-use Rattle.group_applying.specs.Within.{start_in, end_in, call_in, Given, Within, overlap_of, BothPut}
+use Rattle.group_applying.specs.Within.{start_in, end_in, call_in, Given, overlap_of, BothPut}
 use Rattle.group_applying.proofs.CallLaws.{call_most}
-use Rattle.group_applying.proofs.WrittenLaws.{stepped, step_size, step_other, first_in, second_in, once_rest, first_there, second_there, later_there, first_not_later, second_not_later}
+use Rattle.group_applying.proofs.WrittenLaws.{stepped, step_size, step_other, second_in, once_rest, first_there, second_there, later_there, first_not_later, second_not_later}
 
 -- with the pairs l still to treat, which passed: s and g as they stand, p pairs treated, of which o overlap
 pub record Applying (w : Strategies) (s₀ : List ℕ) (g₀ : CorrectionStats) (n : ℕ) (l : List (ℕ × ℕ)) (s : List ℕ) (g : CorrectionStats) (p o : ℕ) : Type 0 where

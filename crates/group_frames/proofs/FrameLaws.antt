@@ -9,7 +9,7 @@ use native.Mathlib.Omega.{arith}
 use borrow.Author.Tests.{lt-ltb, le-ltb, ltb-false}
 use borrow.Author.Count.{below_more, below_none}
 use lib.Dec.{ltb}
-use lib.ListN.{length, get_or, set, length-set}
+use lib.ListN.{length, set, length-set}
 use lib.Seq.{get_or-set_same, get_or-set_other}
 use Rattle.refusal.specs.declared.Refusal.{Refusal}
 use Rattle.refusal.specs.declared.Refusal.TheVariants as Why
@@ -17,17 +17,14 @@ use Rattle.fields.specs.declared.Layout.{Layout}
 use Rattle.fields.specs.declared.Checked.{Checked}
 use Rattle.fields.specs.declared.Checked.TheVariants.{Good, Bad}
 use Rattle.fields.specs.Number.{unsigned}
-use Rattle.fields.specs.Layout.{layout_of}
 use Rattle.fields.specs.Check.{check_of}
-use Rattle.fields.specs.Sound.{Sound}
 use Rattle.fields.proofs.CheckLaws.{good_sound}
 use Rattle.group_frames.specs.declared.Frame.{Frame}
 use Rattle.group_frames.specs.declared.Frame.TheVariants.{To, Refused}
-use Rattle.group_frames.specs.declared.Framing.{Framing}
 use Rattle.group_frames.specs.declared.Framing.TheVariants.{Whole, Broken}
 use Rattle.group_frames.specs.Part.{part}
 use Rattle.group_frames.specs.Frame.{frame_end, begin_of, start_of, end_of, record_of, on_checked, frame_of, on_frame, frames_from, frames_of}
-use Rattle.group_frames.specs.Table.{FrameTable, Filled}
+use Rattle.group_frames.specs.Table.{FrameTable}
 
 -- ---- one frame, by what the code finds
 module _ (s : List ℕ) (p k : ℕ) (inside : p ≤ length s) where

@@ -1,9 +1,9 @@
 -- A part that is put in a list is read there, and a part apart from it is as it was.
-use mathlib.Core.Path.{◌≡◌, refl, sym, ◌∙◌, ap}
-use mathlib.Core.List.{List, ◌++◌}
-use Prim.Native.Nat.{ℕ, ◌+◌, ◌-◌, ◌<◌, ◌≤◌}
+use mathlib.Core.Path.{◌≡◌, sym, ◌∙◌, ap}
+use mathlib.Core.List.{List}
+use Prim.Native.Nat.{ℕ, ◌+◌, ◌-◌, ◌≤◌}
 use native.Mathlib.Omega.{arith}
-use lib.ListN.{length, get_or, take, drop, take-append-drop, length-drop, length-take}
+use lib.ListN.{length, take, drop, take-append-drop, length-drop, length-take}
 use lib.Seq.{take_at, drop_at, length-take-le, drop-drop, drop-append-le, take-append-le}
 use borrow.Rule.Slice.PartMut.{take_put, drop_put, same_len_mid}
 use Rattle.group_frames.specs.Part.{part, splice}

@@ -1,17 +1,17 @@
 -- Records of one group lie apart, in order; what is put in the place of one leaves the others. What the table says of each.
 use Prim.Native.Nat.{ℕ, zero, suc, ◌+◌, ◌-◌, ◌<◌, ◌≤◌}
-use mathlib.Core.Path.{◌≡◌, refl, sym, ◌∙◌, ap, ap₂}
+use mathlib.Core.Path.{◌≡◌, sym, ◌∙◌, ap, ap₂}
 use mathlib.Core.List.{List}
-use mathlib.Core.Logic.{◌⊎◌, inl, inr, ⊎_elim}
+use mathlib.Core.Logic.{◌⊎◌, ⊎_elim}
 use native.Mathlib.Numerals.{add-one}
 use native.Mathlib.Omega.{arith}
 use borrow.Rule.Slice.PartMut.{same_len_mid, take_put, drop_put}
-use lib.ListN.{length, get_or, take, drop}
+use lib.ListN.{length, get_or}
 use lib.Seq.{get_or-take, get_or-drop}
 use Rattle.fields.proofs.Arith.{lt_or_le}
 use Rattle.fields.specs.Layout.{layout_of}
 use Rattle.fields.specs.Sound.{Sound}
-use Rattle.group_frames.specs.Part.{part, splice}
+use Rattle.group_frames.specs.Part.{part}
 use Rattle.group_frames.specs.Frame.{begin_of, start_of, end_of, record_of, put_record}
 use Rattle.group_frames.specs.Table.{FrameTable}
 use Rattle.group_frames.proofs.PartLaws.{length_part, part_put, part_after, part_before}

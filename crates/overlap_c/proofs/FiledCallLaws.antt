@@ -1,6 +1,6 @@
 -- The exported calls on filed groups, by their cases.
 use Prim.Native.Nat.{ℕ}
-use mathlib.Core.Path.{◌≡◌, refl, sym, ap, ◌∙◌}
+use mathlib.Core.Path.{◌≡◌, ap, ◌∙◌}
 use mathlib.Core.List.{List}
 use lib.ListN.{length}
 use borrow.Author.Tests.{eq-eqb, ne_eqb}
@@ -14,7 +14,7 @@ use Rattle.filed.specs.Filed.{Ended, filed_of}
 use Rattle.filed_raw.specs.declared.Filing.{Filing}
 use Rattle.filed_raw.specs.declared.Filing.TheVariants as Filings
 use Rattle.filed_raw.specs.Filing as Filing
-use Rattle.overlap_c.specs.FiledCall.{FiledReturned, filed_returned, filed_called, filed_call_of, trailer_returned, trailer_called, trailer_call_of}
+use Rattle.overlap_c.specs.FiledCall.{filed_returned, filed_called, filed_call_of, trailer_returned, trailer_called, trailer_call_of}
 
 module _ (s out c : List ℕ) where
   pub filed_slice_wrong : (n : ℕ) → n ≡ code_of CountsSlice → (length c ≡ 32 → ⊥) → filed_returned n out c ≡ filed_call_of s out c

@@ -1,15 +1,15 @@
 -- The call that gives the reason tells what the pair call answers of the same records.
-use Prim.Native.Nat.{ℕ, ◌+◌, ◌*◌, ◌%◌, ◌<◌, ◌≤◌}
-use mathlib.Core.Path.{◌≡◌, refl, sym, ap, subst, ◌∙◌}
+use Prim.Native.Nat.{ℕ, ◌+◌, ◌*◌, ◌<◌, ◌≤◌}
+use mathlib.Core.Path.{◌≡◌, refl, sym, ap, subst}
 use mathlib.Core.List.{List}
 use mathlib.Core.Bool.{Bool, true, false, cond}
-use mathlib.Core.Logic.{◌⊎◌, inl, inr, ⊎_elim}
+use mathlib.Core.Logic.{⊎_elim}
 use native.Mathlib.Omega.{arith}
 use lib.Dec.{eqb}
 use lib.ListN.{length}
 use Rattle.refusal.specs.declared.Refusal.{Refusal}
 use Rattle.refusal.specs.declared.Refusal.TheVariants.{Count, Strategy, CountsSlice, Cap}
-use Rattle.refusal.specs.Table.{number_of, place_of, operation_of, code_of}
+use Rattle.refusal.specs.Table.{operation_of, code_of}
 use Rattle.stats.specs.Counts.{full}
 use Rattle.stats.specs.Tally.{counts_at}
 use Rattle.strategy.specs.declared.Strategies.{Strategies}
@@ -22,8 +22,8 @@ use Rattle.positions.specs.Step.{State, state}
 use Rattle.pair_judgement.specs.declared.Reason.TheVariants.{Unmapped, ReferencesDiffer, NegativePosition, NoReferenceLength, NoSharedPosition}
 use Rattle.pair.specs.declared.Answer.{Answer}
 use Rattle.pair.specs.declared.Answer.TheVariants as Answers
-use Rattle.pair.specs.Pair.{Outcome, outcome, records_of, pair_of, answer_code}
-use Rattle.pair_code.specs.Call.{Returned, returned, called, with_numbers, call_of}
+use Rattle.pair.specs.Pair.{outcome, records_of, pair_of, answer_code}
+use Rattle.pair_code.specs.Call.{Returned, returned, with_numbers, call_of}
 use Rattle.pair_reason.specs.Reason.{answer_on, reason_code, reason_call_of}
 use Rattle.pair_reason.proofs.AnswerLaws.{pair_answers}
 use Rattle.pair_reason.proofs.PlaceLaws.{AtPlace, answer_place}

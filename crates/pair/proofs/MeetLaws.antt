@@ -10,7 +10,6 @@ use mathlib.Core.Option.{Option, none, some}
 use mathlib.Core.Logic.{◌⊎◌, inl, inr, ⊎_elim}
 use native.Mathlib.Omega.{arith}
 use Rattle.fields.specs.declared.RefPos.{RefPos}
-use Rattle.fields.specs.declared.ReadOffset.{ReadOffset}
 use Rattle.fields.proofs.Arith.{lt_or_le}
 use Rattle.cigar.specs.Operation.{read_sum, ref_sum}
 use Rattle.cigar.specs.Place.{Sits}

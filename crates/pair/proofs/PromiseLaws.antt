@@ -29,7 +29,6 @@ use Rattle.cigar.specs.declared.Span.TheVariants as Spans
 use Rattle.cigar.proofs.SitsLaws.{in_read}
 use Rattle.fields.specs.Among.{Among}
 use Rattle.positions.specs.Step.{State, job}
-use Rattle.positions.proofs.PointLaws.{Both}
 use Rattle.pair_merge.specs.Shared.{shared, merged}
 use Rattle.pair_merge.specs.Promise.{Share, Names, Bytes}
 use Rattle.pair_merge.proofs.PromiseLaws.{shared_names, promised}

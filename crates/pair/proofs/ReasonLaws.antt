@@ -3,12 +3,10 @@ use Prim.Native.Nat.{ℕ}
 use mathlib.Core.Path.{◌≡◌, refl, sym, subst}
 use mathlib.Core.List.{List, [], ◌∷◌}
 use mathlib.Core.Bool.{Bool, true, false, cond, ◌||◌}
-use mathlib.Core.Logic.{◌↔◌, ◌⊎◌, inl, inr, ⊎_elim}
+use mathlib.Core.Logic.{◌⊎◌, inl, inr, ⊎_elim}
 use native.Mathlib.Omega.{arith}
 use lib.IntN.{ℤ, pos, negsuc}
 use Rattle.fields.specs.declared.Layout.{Layout}
-use Rattle.fields.specs.declared.Position.{Position}
-use Rattle.fields.specs.declared.Position.TheVariants.{At, Unplaced}
 use Rattle.fields.specs.Flag.{has_bit, unmapped}
 use Rattle.fields.specs.Layout.{header, layout_of}
 use Rattle.fields.specs.Position.{position_of, same_id}
@@ -19,9 +17,7 @@ use Rattle.cigar.specs.declared.Span.{Span}
 use Rattle.cigar.specs.declared.Span.TheVariants as Spans
 use Rattle.positions.specs.Step.{State}
 use Rattle.pair_merge.specs.Shared.{shared}
-use Rattle.pair_judgement.specs.declared.Reason.{Reason}
 use Rattle.pair_judgement.specs.declared.Reason.TheVariants.{Unmapped, ReferencesDiffer, NegativePosition, NoReferenceLength, NoSharedPosition}
-use Rattle.pair_judgement.specs.declared.Judged.{Judged}
 use Rattle.pair_judgement.specs.declared.Judged.TheVariants as Judge
 use Rattle.pair_judgement.specs.Judgement.{on_span, on_position, span_in, mapped_of, judged_of}
 use Rattle.pair_judgement.specs.Reason.{covers_none}
@@ -29,8 +25,8 @@ use Rattle.pair_judgement.proofs.TreatLaws.{spanned, none_covered, some_covered}
 use Rattle.pair.specs.declared.Answer.{Answer}
 use Rattle.pair.specs.declared.Answer.TheVariants as Answers
 use Rattle.pair.specs.Pair.{Outcome, answer_of, on_reference, on_judged, pair_of}
-use Rattle.pair.specs.Promise.{NotRefused, NoOverlap, Aligned, Overlaps, Kept}
-use Rattle.pair.specs.Reasons.{IsUnmapped, Mapped, Differ, Negative, Lengthless, Gives, Reasoned}
+use Rattle.pair.specs.Promise.{NotRefused, Aligned, Kept}
+use Rattle.pair.specs.Reasons.{IsUnmapped, Mapped, Differ, Negative, Lengthless, Reasoned}
 use Rattle.pair.proofs.PromiseLaws.{passed, promise}
 
 module _ (s : State) where

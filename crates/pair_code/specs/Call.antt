@@ -1,6 +1,5 @@
 -- The pair call by numbers and bytes: its answer and every byte of the three slices.
 use Rattle.std.specs.Prelude.{ℕ, List, cond, length, eqb}
-use Rattle.refusal.specs.declared.Refusal.{Refusal}
 use Rattle.refusal.specs.declared.Refusal.TheVariants.{CountsSlice}
 use Rattle.refusal.specs.Table.{code_of}
 use Rattle.stats.specs.declared.CorrectionStats.{CorrectionStats}

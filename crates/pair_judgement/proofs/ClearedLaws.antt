@@ -28,12 +28,11 @@ use Rattle.strategy.specs.declared.Strategies.{Strategies}
 use Rattle.positions.specs.Step.{State, state, job}
 use Rattle.pair_merge.specs.Shared.{Walked}
 use Rattle.pair_judgement.specs.declared.Reason.{Reason}
-use Rattle.pair_judgement.specs.declared.Judged.{Judged}
 use Rattle.pair_judgement.specs.declared.Judged.TheVariants as Judge
 use Rattle.pair_judgement.specs.declared.Where.{Where}
 use Rattle.pair_judgement.specs.declared.Where.TheVariants.{Apart, On}
 use Rattle.pair_judgement.specs.Judgement.{on_uses, on_span, span_in, judged_of}
-use Rattle.pair_judgement.specs.Where.{where_of, on_where}
+use Rattle.pair_judgement.specs.Where.{where_of}
 use Rattle.pair_judgement.specs.Ready.{TreatedTo, Cleared, TreatedAt}
 use Rattle.pair_judgement.proofs.JudgeLaws.{where_judged}
 use Rattle.pair_judgement.proofs.TreatLaws.{on_uses_lem, Spanned, spanned, spanned_walked, none_met, empty₁, empty₂, few_bases}

@@ -1,15 +1,14 @@
 -- What is known of two records that were judged to be on one reference, and what treating them asks.
-use Prim.Native.Nat.{ℕ, zero, suc, ◌+◌, ◌*◌, ◌≤◌, ◌<◌}
+use Prim.Native.Nat.{ℕ, ◌+◌, ◌*◌, ◌≤◌, ◌<◌}
 use mathlib.Core.Path.{◌≡◌, refl, sym, ap, ◌∙◌}
-use mathlib.Core.List.{List, [], ◌∷◌}
+use mathlib.Core.List.{List, []}
 use mathlib.Core.Bool.{Bool, true, false, cond, ◌||◌}
 use mathlib.Core.Option.{Option, none, some}
-use mathlib.Core.Logic.{◌⊎◌, inl, inr}
+use mathlib.Core.Logic.{inl, inr}
 use native.Mathlib.Omega.{arith}
 use lib.Dec.{ltb}
 use lib.ListN.{length}
 use borrow.Author.Tests.{le-ltb, eqb-true, eqb-false}
-use Rattle.refusal.specs.declared.Refusal.{Refusal}
 use Rattle.fields.specs.declared.Layout.{Layout}
 use Rattle.fields.specs.declared.RefPos.{RefPos}
 use Rattle.fields.specs.declared.Position.{Position}
@@ -17,7 +16,7 @@ use Rattle.fields.specs.declared.Position.TheVariants.{At, Unplaced}
 use Rattle.fields.specs.Flag.{has_bit, unmapped}
 use Rattle.fields.specs.Layout.{header}
 use Rattle.fields.specs.Position.{position_of, same_id}
-use Rattle.fields.specs.Sound.{Lies, Sound}
+use Rattle.fields.specs.Sound.{Sound}
 use Rattle.cigar.specs.declared.Operations.{Operations}
 use Rattle.cigar.specs.declared.Operations.TheVariants as Ops
 use Rattle.cigar.specs.declared.Span.{Span}

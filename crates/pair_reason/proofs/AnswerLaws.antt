@@ -33,7 +33,6 @@ use Rattle.pair_judgement.specs.Where.{where_of}
 use Rattle.pair_judgement.specs.Ready.{Ready}
 use Rattle.pair_judgement.proofs.TreatLaws.{Known, both_known, none_reached}
 use Rattle.pair_judgement.proofs.JudgeLaws.{judged_as, first_span, second_span, both_spans}
-use Rattle.pair.specs.declared.Answer.{Answer}
 use Rattle.pair.specs.declared.Answer.TheVariants as Answers
 use Rattle.pair.specs.Pair.{answer_of, on_reference, on_judged, on_good, refused_answer, records_of, pair_of}
 use Rattle.pair_reason.specs.Reason.{span_answer, on_both, on_sound, answer_on}

@@ -16,7 +16,7 @@ use Rattle.fields.specs.declared.Position.TheVariants.{At, Unplaced}
 use Rattle.fields.specs.declared.Checked.{Checked}
 use Rattle.fields.specs.declared.Checked.TheVariants.{Good, Bad}
 use Rattle.fields.specs.Flag.{has_bit, unmapped}
-use Rattle.fields.specs.Layout.{header, bases_at, tags_at, layout_of}
+use Rattle.fields.specs.Layout.{header, bases_at, tags_at}
 use Rattle.fields.specs.Position.{position_of, same_id}
 use Rattle.fields.specs.Check.{check_of}
 use Rattle.cigar.specs.declared.Walk.{Walk}
@@ -34,7 +34,6 @@ use Rattle.pair_judgement.specs.declared.Judged.TheVariants as Judge
 use Rattle.pair_judgement.specs.declared.Reason.TheVariants.{Unmapped, ReferencesDiffer, NoReferenceLength}
 use Rattle.pair_judgement.specs.Judgement.{on_uses, on_span, on_position, span_in, mapped_of, judged_of}
 use Rattle.pair_judgement.specs.Reason.{lengthless}
-use Rattle.pair.specs.declared.Answer.{Answer}
 use Rattle.pair.specs.declared.Answer.TheVariants as Answers
 use Rattle.pair.specs.Pair.{answer_of}
 use Rattle.pair_reason.specs.Reason.{on_both, on_sound, answer_on}

@@ -2,10 +2,6 @@
 use mathlib.Core.Path.{sym, ◌∙◌}
 use Rattle.filed.proofs.WriteLaws.{found_at}
 use Rattle.filed.proofs.StageLaws.{too_full, broken, missing, at}
-use Rattle.filed_ending.proofs.cut.Reads as cut-reads
-use Rattle.filed.proofs.correct_ended.Reads as correct-ended-reads
-use Rattle.filed.proofs.refused.Reads as refused-reads
-use Rattle.stats.proofs.CorrectionStats.full.Reads as full-reads
 use Rattle.filed.proofs.correct.Goals as goal
 
 pub returns-then-full : goal.returns-then-full

@@ -1,14 +1,9 @@
 -- `filed::correct_ended` meets its contract. Assumes nothing.
-use Prim.Native.Nat.{◌-◌}
 use mathlib.Core.Path.{sym, ◌∙◌}
 use native.Mathlib.Omega.{arith}
 use lib.ListN.{get_or}
 use Rattle.filed.proofs.WriteLaws.{table_end}
 use Rattle.filed.proofs.StageLaws.{not_fifty, wrong_field, known, raw}
-use Rattle.filed.proofs.correct_raw.Reads as correct-raw-reads
-use Rattle.filed.proofs.refused.Reads as refused-reads
-use Rattle.filed_trailer.proofs.Trailer.wrong.Reads as wrong-reads
-use Rattle.filed_trailer.proofs.read.Reads as read-reads
 use Rattle.filed.proofs.correct_ended.Goals as goal
 
 pub overflow_sub-filed : goal.overflow_sub-filed

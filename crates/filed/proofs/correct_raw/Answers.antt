@@ -5,11 +5,6 @@ use lib.ListN.{take}
 use Rattle.filed.proofs.WriteLaws.{front_part, front_placed, front_whole, growth_adds}
 use Rattle.filed.proofs.StageLaws.{no_numbers, pair_refused, output_short, all_written}
 use borrow.Author.Rules.{rules}
-use Rattle.filed.proofs.refused.Reads as refused-reads
-use Rattle.filed.proofs.write_filed.Reads as write-filed-reads
-use Rattle.filed.proofs.written.Reads as written-reads
-use Rattle.strategy.proofs.by_number.Reads as by-number-reads
-use Rattle.group_verdicts.proofs.judge_all.Reads as judge-all-reads
 use Rattle.filed.proofs.correct_raw.Goals as goal
 
 pub returns-in_default : goal.returns-in_default

@@ -2,8 +2,6 @@
 use mathlib.Core.Path.{sym}
 use native.Mathlib.Omega.{arith}
 use Rattle.filed.proofs.WriteLaws.{front_part, front_placed, front_end, final, filed_to}
-use Rattle.filed.proofs.put_trailer.Reads as put-trailer-reads
-use Rattle.filed.proofs.write_frames.Reads as write-frames-reads
 use Rattle.filed.proofs.write_filed.Goals as goal
 
 pub write_frames-applied-requires : goal.write_frames-applied-requires

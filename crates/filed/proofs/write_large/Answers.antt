@@ -1,7 +1,6 @@
 -- `filed::write_large` meets its contract. Assumes nothing.
 use native.Mathlib.Omega.{arith}
 use Rattle.filed.proofs.ShortLaws.{short_enough}
-use Rattle.filed_writing.proofs.write_all.Reads as write-all-reads
 use Rattle.filed.proofs.write_large.Goals as goal
 
 pub write_all-requires : goal.write_all-requires

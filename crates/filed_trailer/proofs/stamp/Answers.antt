@@ -1,5 +1,4 @@
 -- `filed_trailer::stamp` meets its contract. Assumes nothing.
-use mathlib.Core.Path.{◌∙◌}
 use native.Mathlib.Omega.{arith}
 use lib.ListN.{length-set}
 use Rattle.filed_trailer.proofs.stamp.Goals as goal

@@ -1,5 +1,5 @@
 use mathlib.Core.Path.{refl, ◌∙◌}
-use Prim.Native.Nat.{ℕ, ◌-◌}
+use Prim.Native.Nat.{ℕ}
 use lib.ListN.{length-set}
 use Rattle.group_mates.proofs.TableLaws.{entered_start, entered_next}
 use native.Mathlib.Omega.{arith}

@@ -1,5 +1,5 @@
 use Prim.Native.Nat.{◌-◌}
-use mathlib.Core.Path.{refl, ◌∙◌}
+use mathlib.Core.Path.{refl}
 use lib.ListN.{length}
 use Rattle.filed_writing.proofs.FrontLaws.{block_front, block_long, block_last}
 use native.Mathlib.Omega.{arith}

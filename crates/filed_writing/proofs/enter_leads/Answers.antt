@@ -1,5 +1,4 @@
 use mathlib.Core.Path.{refl, ◌∙◌}
-use Prim.Native.Nat.{◌-◌}
 use lib.ListN.{length-set}
 use Rattle.filed_writing.proofs.LeadLaws.{leading_start, leading_alone, mate_in, lead_in, leading_next, leading_end}
 use native.Mathlib.Omega.{arith}

@@ -1,5 +1,4 @@
 use mathlib.Core.Path.{refl, ◌∙◌}
-use Prim.Native.Nat.{◌-◌}
 use Rattle.group_frames.proofs.PlaceLaws.{end_in_lem}
 use Rattle.filed_writing.proofs.LeadLaws.{mated_pairing}
 use Rattle.filed_writing.proofs.ChosenLaws.{stands_none}

@@ -1,5 +1,4 @@
 use mathlib.Core.Path.{refl, ◌∙◌}
-use Prim.Native.Nat.{◌-◌}
 use lib.ListN.{length, get_or}
 use Rattle.group_applying.proofs.ApplyLaws.{applying_start, applying_alone, given, few_more, adds, applying_next, applying_end}
 use native.Mathlib.Omega.{arith}

@@ -1,5 +1,4 @@
 -- `group_applying::apply_parts` meets its contract. Assumes nothing.
-use native.Mathlib.Omega.{arith}
 use Rattle.group_applying.proofs.PutLaws.{lent_asks, put_as}
 use Rattle.group_applying.proofs.apply_parts.Goals as goal
 

@@ -1,5 +1,4 @@
 use mathlib.Core.Path.{refl, ◌∙◌}
-use Prim.Native.Nat.{◌-◌}
 use lib.ListN.{length-set}
 use Rattle.group_frames.proofs.FrameLaws.{going_start, said_none, said_refused, going_next, said_many, said_all}
 use native.Mathlib.Omega.{arith}

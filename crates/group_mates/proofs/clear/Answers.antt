@@ -1,5 +1,4 @@
 use mathlib.Core.Path.{refl, ◌∙◌}
-use Prim.Native.Nat.{◌-◌}
 use lib.ListN.{length-set}
 use Rattle.group_mates.proofs.ChainLaws.{cleared_start, cleared_next}
 use native.Mathlib.Omega.{arith}

@@ -1,5 +1,4 @@
 use mathlib.Core.Path.{refl, ap, ◌∙◌}
-use Prim.Native.Nat.{◌-◌}
 use lib.ListN.{length-set}
 use Rattle.group_mates.specs.Table.{key_in}
 use Rattle.group_mates.proofs.TableLaws.{keys_of, entered_start, entered_next, entered_keys}

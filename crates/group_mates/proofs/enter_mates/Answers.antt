@@ -1,5 +1,4 @@
 use mathlib.Core.Path.{refl, ◌∙◌}
-use Prim.Native.Nat.{◌-◌}
 use lib.ListN.{length-set}
 use Rattle.group_mates.specs.Register.{mates_of}
 use Rattle.group_mates.proofs.TableLaws.{entered_start, entered_next, entered_mates}

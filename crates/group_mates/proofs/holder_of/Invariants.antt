@@ -1,6 +1,5 @@
 -- `group_mates::holder_of` meets its contract. The loop keeps: c is 0 or one more than a record of the chain, whoever has the registration among all
 -- records has it among the first c, and the search may end at `end`, which c has not passed. The measure is c. Assumes nothing.
-use Prim.Native.Nat.{◌-◌}
 use Rattle.group_mates.proofs.ChainLaws.{Walking, Ending}
 use Rattle.group_mates.proofs.holder_of.Given as goal
 

@@ -1,6 +1,6 @@
 -- `group_mates::key_of` meets its contract. Assumes nothing.
 use mathlib.Core.Path.{ap, ap₂, ◌∙◌}
-use Prim.Native.Nat.{ℕ, ◌+◌, ◌-◌, ◌*◌}
+use Prim.Native.Nat.{ℕ, ◌+◌, ◌*◌}
 use Rattle.group_mates.specs.Table.{key_in}
 use Rattle.group_names.specs.Digest.{digest_of}
 use Rattle.group_mates.proofs.key_of.Goals as goal

@@ -1,5 +1,4 @@
 use mathlib.Core.Path.{refl, ◌∙◌}
-use Prim.Native.Nat.{◌-◌}
 use lib.ListN.{length-set}
 use Rattle.group_mates.proofs.ChainLaws.{linked_start, linked_next, linked_all}
 use borrow.Author.Rules.{rules}

@@ -1,6 +1,5 @@
 -- `group_mates::mate_of` meets its contract. Assumes nothing.
 use mathlib.Core.Path.{sym, ◌∙◌}
-use Prim.Native.Nat.{◌-◌}
 use Rattle.group_mates.specs.Register.{role_at, name_at}
 use Rattle.group_mates.proofs.KeyLaws.{role_of_key, mate_none, mate_superseded, mate_held}
 use native.Mathlib.Omega.{arith}

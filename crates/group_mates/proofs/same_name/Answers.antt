@@ -1,6 +1,5 @@
 -- `group_mates::same_name` meets its contract. Assumes nothing.
 use mathlib.Core.Path.{ap₂, ◌∙◌}
-use Prim.Native.Nat.{◌-◌}
 use Rattle.group_names.specs.Same.{same_bytes}
 use Rattle.group_mates.proofs.same_name.Goals as goal
 

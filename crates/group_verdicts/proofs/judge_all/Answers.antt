@@ -1,5 +1,4 @@
 use mathlib.Core.Path.{refl}
-use Prim.Native.Nat.{◌-◌}
 use lib.ListN.{get_or}
 use Rattle.group_mates.specs.Register.{mates_of}
 use Rattle.group_verdicts.specs.Indexed.{indexed_at}

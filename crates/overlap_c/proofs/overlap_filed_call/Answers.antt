@@ -1,10 +1,6 @@
 -- `overlap_c::overlap_filed_call` meets its contract. Assumes nothing.
 use Rattle.filed.specs.Filed.{ended}
 use Rattle.overlap_c.proofs.FiledCallLaws.{filed_slice_wrong, filed_corrected, filed_known, filed_refused}
-use Rattle.filed.proofs.correct.Reads as correct-reads
-use Rattle.refusal.proofs.Refusal.code.Reads as code_Reads
-use Rattle.stats.proofs.counts_at.Reads as counts-at-reads
-use Rattle.stats.proofs.put_counts.Reads as put-counts-reads
 use Rattle.overlap_c.proofs.overlap_filed_call.Goals as goal
 
 pub returns-then-counts-ne-COUNTS : goal.returns-then-counts-ne-COUNTS

@@ -1,7 +1,5 @@
 -- `overlap_c::overlap_trailer_call` meets its contract. Assumes nothing.
 use Rattle.overlap_c.proofs.FiledCallLaws.{trailer_made, trailer_refused}
-use Rattle.filed_raw.proofs.file.Reads as file-reads
-use Rattle.refusal.proofs.Refusal.code.Reads as code_Reads
 use Rattle.overlap_c.proofs.overlap_trailer_call.Goals as goal
 
 pub returns-in-Made : goal.returns-in-Made

@@ -1,6 +1,5 @@
 -- `pair_judgement::locate` meets its contract. Assumes nothing.
 use mathlib.Core.Path.{sym, ◌∙◌}
-use borrow.Author.Tests.{not-true, not-false}
 use Rattle.pair_judgement.proofs.JudgeLaws.{first_unmapped, second_unmapped, first_unplaced, second_unplaced, ids_differ, both_placed}
 use Rattle.pair_judgement.proofs.locate.Goals as goal
 
