@@ -103,9 +103,8 @@ def sitting(r):
     """The index of the base at each position, counted from 1, where one sits."""
     found, i, p = {}, 0, pos(r) + 1
     for length, code in operations(r):
-        for k in range(length if code in READ and code in REFERENCE else 0):
-            if i + k < l_seq(r):
-                found[p + k] = i + k
+        for k in range(min(length, max(l_seq(r) - i, 0)) if code in READ and code in REFERENCE else 0):
+            found[p + k] = i + k
         i += length * (code in READ)
         p += length * (code in REFERENCE)
     return found
