@@ -73,7 +73,6 @@ def cell(edit, said):
         return 'its shape'
     else:
         return 'nothing that is known'
-    goal = re.sub(r'-(then|else|in|at|after)-.*', '', goal)
     kind = next(words for pattern, words in KINDS if re.fullmatch(pattern + r'(-.*)?', goal))
     return f'`{function}`: {kind}'
 
