@@ -1,4 +1,7 @@
 -- Refusals 5 and 7 are given exactly when the document says.
+use Rattle.std.specs.Prelude.{Result, Ok, Err}
+use Rattle.refusal.specs.declared.Refusal.{Refusal}
+use Rattle.cigar.specs.declared.Totals.{Totals}
 use Prim.Native.Nat.{ℕ, suc, ◌+◌, ◌%◌, ◌≤◌, ◌<◌}
 use mathlib.Core.Path.{◌≡◌, refl, sym, ap, ◌∙◌}
 use mathlib.Core.List.{List, [], ◌∷◌, ◌++◌, append-nil}
@@ -12,11 +15,7 @@ use Rattle.refusal.specs.declared.Refusal.TheVariants.{OperationCode, ReadTotal}
 use Rattle.fields.specs.declared.Layout.{Layout}
 use Rattle.fields.proofs.Arith.{lt_or_le}
 use Rattle.cigar.specs.Operation.{Unknown, kind, read_sum, ref_sum, ops_in}
-use Rattle.cigar.specs.declared.Walk.{Walk}
-use Rattle.cigar.specs.declared.Walk.TheVariants.{Totals, UnknownCode}
-use Rattle.cigar.specs.declared.Operations.{Operations}
-use Rattle.cigar.specs.declared.Operations.TheVariants as Ops
-use Rattle.cigar.specs.Judge.{on_kind, fault_or, walk_of, judged, operations_of}
+use Rattle.cigar.specs.Judge.{on_kind, fault_or, walk_of, judged, operations_of, totals}
 use Rattle.cigar.specs.Exact.{BadCode, BadTotal, Faultless, FirstFault, GivenExactly}
 use Rattle.cigar.proofs.PlaceLaws.{kind_bad}
 use Rattle.cigar.proofs.JudgeLaws.{known_kind}
@@ -27,8 +26,8 @@ bad_unknown op = (λ h. kind_bad (op % 16) h, λ e. ⊎_elim (λ h. h) (λ h. ab
   where
     known : op % 16 ≤ 8 → kind op ≡ Unknown → ⊥
     known h e =
-        let k : on_kind (kind op) 0 (Totals 0 0) ≡ Totals 0 0 = known_kind (op % 16) 0 (Totals 0 0) h in
-        let u : UnknownCode 0 ≡ Totals 0 0 = rw e at k in
+        let k : on_kind (kind op) 0 (Ok (totals 0 0)) ≡ Ok (totals 0 0) = known_kind (op % 16) 0 (Ok (totals 0 0)) h in
+        let u : Err 0 ≡ Ok (totals 0 0) = rw e at k in
         let z : ◌≡◌ {A = ℕ} 0 1 = cc in omega arith
 
 -- ---- every operation, from the first on
@@ -47,7 +46,7 @@ one_less : {w : ℕ} {ws : List ℕ} → Faultless (w ∷ ws) → Faultless ws
 one_less {w} h before op after e = h (w ∷ before) op after (ap (λ (l : List ℕ). w ∷ l) e)
 
 -- the walk passes operations without fault,
-pass_front : (before rest : List ℕ) (i : ℕ) (good : Walk) → Faultless before → fault_or (before ++ rest) i good ≡ fault_or rest (i + length before) good
+pass_front : (before rest : List ℕ) (i : ℕ) (good : Result Totals ℕ) → Faultless before → fault_or (before ++ rest) i good ≡ fault_or rest (i + length before) good
 unfolding fault_or
 pass_front [] rest i good h = ap (λ (k : ℕ). fault_or rest k good) (omega arith)
 pass_front (w ∷ ws) rest i good h =
@@ -55,17 +54,17 @@ pass_front (w ∷ ws) rest i good h =
     ∙ (pass_front ws rest (suc i) good (one_less h) ∙ ap (λ (k : ℕ). fault_or rest k good) (omega arith))
 
 -- all of them where there is no other,
-pass_all : (ops : List ℕ) (good : Walk) → Faultless ops → fault_or ops 0 good ≡ good
+pass_all : (ops : List ℕ) (good : Result Totals ℕ) → Faultless ops → fault_or ops 0 good ≡ good
 unfolding fault_or
 pass_all ops good h = rw append-nil at (pass_front ops [] 0 good h)
 
 -- and stops at the first that is faulty
-stop_code : (ops : List ℕ) (i : ℕ) (good : Walk) → FirstFault ops i → fault_or ops 0 good ≡ UnknownCode i
+stop_code : (ops : List ℕ) (i : ℕ) (good : Result Totals ℕ) → FirstFault ops i → fault_or ops 0 good ≡ Err i
 unfolding fault_or
 stop_code ops i good f =
     let here : 0 + length f.before ≡ i = omega (arith, f.index) in
     ap (λ (l : List ℕ). fault_or l 0 good) f.split
-    ∙ (pass_front f.before (f.op ∷ f.after) 0 good f.passed ∙ (rw (kind_bad (f.op % 16) f.faulty) (ap UnknownCode here)))
+    ∙ (pass_front f.before (f.op ∷ f.after) 0 good f.passed ∙ (rw (kind_bad (f.op % 16) f.faulty) (ap Err here)))
 
 -- there is a first faulty operation, or none is
 first_fault : (ops : List ℕ) → ((i : ℕ) × FirstFault ops i) ⊎ Faultless ops
@@ -94,19 +93,19 @@ first_fault (w ∷ ws) = go (first_fault ws) (lt_or_le 8 (w % 16))
 
 -- ---- the answers
 -- each answer, with what it is given for
-data Given (count : ℕ) (ops : List ℕ) (place : ℕ) : Operations → Type 0 where
-  by_code : (i : ℕ) → FirstFault ops i → Given count ops place (Ops.Refused (OperationCode place i))
-  by_total : Faultless ops → BadTotal count ops → Given count ops place (Ops.Refused (ReadTotal place))
-  passes : Faultless ops → (BadTotal count ops → ⊥) → Given count ops place (Ops.Uses (ref_sum ops))
+data Given (count : ℕ) (ops : List ℕ) (place : ℕ) : Result ℕ Refusal → Type 0 where
+  by_code : (i : ℕ) → FirstFault ops i → Given count ops place (Err (OperationCode place i))
+  by_total : Faultless ops → BadTotal count ops → Given count ops place (Err (ReadTotal place))
+  passes : Faultless ops → (BadTotal count ops → ⊥) → Given count ops place (Ok (ref_sum ops))
 
 -- the reason of an answer
-code_of : {count : ℕ} {ops : List ℕ} {place at i : ℕ} → Given count ops place (Ops.Refused (OperationCode at i)) → FirstFault ops i
+code_of : {count : ℕ} {ops : List ℕ} {place at i : ℕ} → Given count ops place (Err (OperationCode at i)) → FirstFault ops i
 code_of (by_code i f) = f
 
-total_of : {count : ℕ} {ops : List ℕ} {place at : ℕ} → Given count ops place (Ops.Refused (ReadTotal at)) → Faultless ops × BadTotal count ops
+total_of : {count : ℕ} {ops : List ℕ} {place at : ℕ} → Given count ops place (Err (ReadTotal at)) → Faultless ops × BadTotal count ops
 total_of (by_total h t) = (h, t)
 
-uses_of_lem : {count : ℕ} {ops : List ℕ} {place n : ℕ} → Given count ops place (Ops.Uses n) → Faultless ops × (BadTotal count ops → ⊥) × (n ≡ ref_sum ops)
+uses_of_lem : {count : ℕ} {ops : List ℕ} {place n : ℕ} → Given count ops place (Ok n) → Faultless ops × (BadTotal count ops → ⊥) × (n ≡ ref_sum ops)
 uses_of_lem (passes h t) = (h, t, refl)
 
 -- whether the read total is wrong, and what the test says of it
@@ -124,23 +123,23 @@ total_tested count ops = go (ltb 0 count) (ltb 0 (length ops)) (eqb (read_sum op
 
 module _ (y : Layout) (s : List ℕ) (place : ℕ) where
   -- the walk's answer judged
-  answer_of_lem : (w : Walk) → walk_of (ops_in y s) ≡ w → operations_of y s place ≡ judged y.count (length (ops_in y s)) place w
+  answer_of_lem : (w : Result Totals ℕ) → walk_of (ops_in y s) ≡ w → operations_of y s place ≡ judged y.count (length (ops_in y s)) place w
   unfolding operations_of
   answer_of_lem w e = ap (judged y.count (length (ops_in y s)) place) e
 
   -- where a condition holds, its answer is given
-  code_given : (i : ℕ) → FirstFault (ops_in y s) i → operations_of y s place ≡ Ops.Refused (OperationCode place i)
-  code_given i f = answer_of_lem (UnknownCode i) (stop_code (ops_in y s) i _ f)
+  code_given : (i : ℕ) → FirstFault (ops_in y s) i → operations_of y s place ≡ Err (OperationCode place i)
+  code_given i f = answer_of_lem (Err i) (stop_code (ops_in y s) i _ f)
 
   -- without a faulty operation the read total decides
   totals_of : Faultless (ops_in y s)
-      → operations_of y s place ≡ judged y.count (length (ops_in y s)) place (Totals (read_sum (ops_in y s)) (ref_sum (ops_in y s)))
-  totals_of h = answer_of_lem (Totals (read_sum (ops_in y s)) (ref_sum (ops_in y s))) (pass_all (ops_in y s) _ h)
+      → operations_of y s place ≡ judged y.count (length (ops_in y s)) place (Ok (totals (read_sum (ops_in y s)) (ref_sum (ops_in y s))))
+  totals_of h = answer_of_lem (Ok (totals (read_sum (ops_in y s)) (ref_sum (ops_in y s)))) (pass_all (ops_in y s) _ h)
 
-  total_given : Faultless (ops_in y s) → BadTotal y.count (ops_in y s) → operations_of y s place ≡ Ops.Refused (ReadTotal place)
+  total_given : Faultless (ops_in y s) → BadTotal y.count (ops_in y s) → operations_of y s place ≡ Err (ReadTotal place)
   total_given h t = totals_of h ∙ ⊎_elim (λ w. rw w.1) (λ w. absurd (w.0 t)) (total_tested y.count (ops_in y s))
 
-  uses_given : Faultless (ops_in y s) → (BadTotal y.count (ops_in y s) → ⊥) → operations_of y s place ≡ Ops.Uses (ref_sum (ops_in y s))
+  uses_given : Faultless (ops_in y s) → (BadTotal y.count (ops_in y s) → ⊥) → operations_of y s place ≡ Ok (ref_sum (ops_in y s))
   uses_given h t = totals_of h ∙ ⊎_elim (λ w. absurd (t w.0)) (λ w. rw w.1) (total_tested y.count (ops_in y s))
 
   -- one of the answers is given, for its reason
@@ -155,7 +154,7 @@ module _ (y : Layout) (s : List ℕ) (place : ℕ) where
       go (inr h) (inr t) = rw (uses_given h t.0) (passes h t.0)
 
   -- whatever the answer is, it is given for its reason
-  given_as : {r : Operations} → operations_of y s place ≡ r → Given y.count (ops_in y s) place r
+  given_as : {r : Result ℕ Refusal} → operations_of y s place ≡ r → Given y.count (ops_in y s) place r
   given_as e = rw e at given
 
   -- refusals 5 and 7 are given exactly when the document says, and there is no other answer
@@ -164,12 +163,12 @@ module _ (y : Layout) (s : List ℕ) (place : ℕ) where
       record {
         code = λ i. (λ e. code_of (given_as e), code_given i);
         total = (λ e. total_of (given_as e), λ h. total_given h.0 h.1);
-        uses = λ n. (λ e. uses_of_lem (given_as e), λ h. uses_given h.0 h.1 ∙ ap Ops.Uses (sym h.2));
+        uses = λ n. (λ e. uses_of_lem (given_as e), λ h. uses_given h.0 h.1 ∙ ap Ok (sym h.2));
         decided = one_of given;
       }
     where
-      one_of : {r : Operations} → Given y.count (ops_in y s) place r
-          → ((i : ℕ) × (r ≡ Ops.Refused (OperationCode place i))) ⊎ ((r ≡ Ops.Refused (ReadTotal place)) ⊎ (r ≡ Ops.Uses (ref_sum (ops_in y s))))
+      one_of : {r : Result ℕ Refusal} → Given y.count (ops_in y s) place r
+          → ((i : ℕ) × (r ≡ Err (OperationCode place i))) ⊎ ((r ≡ Err (ReadTotal place)) ⊎ (r ≡ Ok (ref_sum (ops_in y s))))
       one_of (by_code i f) = inl (i, refl)
       one_of (by_total h t) = inr (inl refl)
       one_of (passes h t) = inr (inr refl)

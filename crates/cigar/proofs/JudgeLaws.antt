@@ -1,4 +1,6 @@
 -- Laws of the walk over a record's operations, and what its answers show.
+use Rattle.std.specs.Prelude.{Result, Ok, Err}
+use Rattle.cigar.specs.declared.Totals.{Totals}
 use Prim.Native.Nat.{ℕ, zero, suc, ◌+◌, ◌-◌, ◌*◌, ◌/◌, ◌%◌, ◌≤◌, ◌<◌}
 use mathlib.Core.Path.{◌≡◌, refl, sym, ap, ap₂, ◌∙◌}
 use mathlib.Core.List.{List, [], ◌∷◌}
@@ -12,17 +14,13 @@ use Rattle.refusal.specs.declared.Refusal.TheVariants.{ReadTotal, ReferenceEnd}
 use Rattle.fields.specs.declared.Layout.{Layout}
 use Rattle.fields.specs.Number.{unsigned}
 use Rattle.cigar.specs.Operation.{Kind, Both, Reference, Read, Neither, Unknown, kind_of, kind, read_len, ref_len, read_sum, ref_sum, operations, ops_in}
-use Rattle.cigar.specs.declared.Walk.{Walk}
-use Rattle.cigar.specs.declared.Walk.TheVariants.{Totals, UnknownCode}
-use Rattle.cigar.specs.declared.Operations.TheVariants as Ops
-use Rattle.cigar.specs.declared.Span.TheVariants as Spans
 use Rattle.cigar.specs.declared.Extent.{Extent}
-use Rattle.cigar.specs.Judge.{on_kind, fault_or, walk_of, judged, operations_of, extent, span_of}
+use Rattle.cigar.specs.Judge.{on_kind, fault_or, walk_of, judged, operations_of, extent, span_of, totals}
 use Rattle.cigar.proofs.PlaceLaws.{kind_bad, ops_step, ops_short}
 use Rattle.cigar.proofs.CursorLaws.{le_take}
 
 -- at a code of 0 to 8 the walk goes on
-pub known_kind : (c i : ℕ) (x : Walk) → c ≤ 8 → on_kind (kind_of c) i x ≡ x
+pub known_kind : (c i : ℕ) (x : Result Totals ℕ) → c ≤ 8 → on_kind (kind_of c) i x ≡ x
 known_kind zero i x h = refl
 known_kind (suc zero) i x h = refl
 known_kind (suc (suc zero)) i x h = refl
@@ -35,8 +33,8 @@ known_kind (suc (suc (suc (suc (suc (suc (suc (suc zero)))))))) i x h = refl
 known_kind (suc (suc (suc (suc (suc (suc (suc (suc (suc n))))))))) i x h = absurd (omega arith)
 
 -- what the walk has left to say of operations whose indexes begin at i, with so much used before them
-abbrev pub from_here : List ℕ → ℕ → ℕ → ℕ → Walk
-from_here ops i q r = fault_or ops i (Totals (q + read_sum ops) (r + ref_sum ops))
+abbrev pub from_here : List ℕ → ℕ → ℕ → ℕ → Result Totals ℕ
+from_here ops i q r = fault_or ops i (Ok (totals (q + read_sum ops) (r + ref_sum ops)))
 
 pub record Walking (l : List ℕ) (from end at q r : ℕ) : Type 0 where
   pub low : at ≤ end
@@ -45,8 +43,8 @@ pub record Walking (l : List ℕ) (from end at q r : ℕ) : Type 0 where
   pub refs : r ≤ at * 268435456
   pub left : from_here (operations at end l) ((at - from) / 4) q r ≡ walk_of (operations from end l)
 
-totals_as : (ops : List ℕ) (i j a b c d : ℕ) → i ≡ j → a ≡ b → c ≡ d → fault_or ops i (Totals a c) ≡ fault_or ops j (Totals b d)
-totals_as ops i j a b c d g e f = ap₂ (λ (x y : ℕ). fault_or ops i (Totals x y)) e f ∙ ap (λ (k : ℕ). fault_or ops k (Totals b d)) g
+totals_as : (ops : List ℕ) (i j a b c d : ℕ) → i ≡ j → a ≡ b → c ≡ d → fault_or ops i (Ok (totals a c)) ≡ fault_or ops j (Ok (totals b d))
+totals_as ops i j a b c d g e f = ap₂ (λ (x y : ℕ). fault_or ops i (Ok (totals x y))) e f ∙ ap (λ (k : ℕ). fault_or ops k (Ok (totals b d))) g
 
 module _ (l : List ℕ) (from end : ℕ) (fits : end ≤ length l) where
   pub walking_start : from ≤ end → Walking l from end from 0 0
@@ -58,11 +56,11 @@ module _ (l : List ℕ) (from end : ℕ) (fits : end ≤ length l) where
     long : length (take end l) ≡ end
     long = length-take-le end l fits
 
-    pub walking_end : end - at < 4 → Totals q r ≡ walk_of (operations from end l)
+    pub walking_end : end - at < 4 → Ok (totals q r) ≡ walk_of (operations from end l)
     unfolding fault_or read_sum ref_sum
     walking_end k =
         let none : operations at end l ≡ [] = ops_short (take end l) at (omega (arith, long)) in
-        ap₂ Totals (omega arith) (omega arith) ∙ (rw none at h.left)
+        ap₂ Ok (totals (omega arith) (omega arith)) ∙ (rw none at h.left)
 
     module _ (w : ℕ) (more : at + 4 ≤ end) (is : w ≡ unsigned 4 l at) where
       rest : List ℕ
@@ -81,8 +79,8 @@ module _ (l : List ℕ) (from end : ℕ) (fits : end ≤ length l) where
           ap (on_kind (kind w) ((at - from) / 4)) (totals_as (operations (at + 4) end l) _ _ _ _ _ _ index (omega arith) (omega arith))
           ∙ (rw split at h.left)
 
-      pub walking_code : (i : ℕ) → i ≡ (at - from) / 4 → 8 < w % 16 → UnknownCode i ≡ walk_of (operations from end l)
-      walking_code i e k = ap UnknownCode e ∙ (rw (kind_bad (w % 16) k) at next)
+      pub walking_code : (i : ℕ) → i ≡ (at - from) / 4 → 8 < w % 16 → Err i ≡ walk_of (operations from end l)
+      walking_code i e k = ap Err e ∙ (rw (kind_bad (w % 16) k) at next)
 
       pub walking_turn : (a b : ℕ) → w < 4294967296 → w % 16 ≤ 8 → (a ≡ read_len w) × (a ≤ w / 16) → (b ≡ ref_len w) × (b ≤ w / 16)
           → Walking l from end (at + 4) (q + a) (r + b)
@@ -97,7 +95,7 @@ module _ (l : List ℕ) (from end : ℕ) (fits : end ≤ length l) where
 
 -- ---- what is judged of the walk's answer
 module _ (y : Layout) (l : List ℕ) (place : ℕ) where
-  pub judged_as : (w w' : Walk) → w ≡ walk_of (ops_in y l) → w ≡ w' → judged y.count (length (ops_in y l)) place w' ≡ operations_of y l place
+  pub judged_as : (w w' : Result Totals ℕ) → w ≡ walk_of (ops_in y l) → w ≡ w' → judged y.count (length (ops_in y l)) place w' ≡ operations_of y l place
   unfolding operations_of
   judged_as w w' e f = ap (judged y.count (length (ops_in y l)) place) (sym f ∙ e)
 
@@ -105,37 +103,37 @@ module _ (y : Layout) (l : List ℕ) (place : ℕ) where
   and_false true = refl
   and_false false = refl
 
-  module _ (q r : ℕ) (w : Walk) (e : w ≡ walk_of (ops_in y l)) (f : w ≡ Totals q r) where
-    pub judged_empty : y.count ≡ 0 → Ops.Uses r ≡ operations_of y l place
-    judged_empty h = (rw (le-ltb 0 y.count (omega arith)) at (judged_as w (Totals q r) e f))
+  module _ (q r : ℕ) (w : Result Totals ℕ) (e : w ≡ walk_of (ops_in y l)) (f : w ≡ Ok (totals q r)) where
+    pub judged_empty : y.count ≡ 0 → Ok r ≡ operations_of y l place
+    judged_empty h = (rw (le-ltb 0 y.count (omega arith)) at (judged_as w (Ok (totals q r)) e f))
 
-    pub judged_none : y.bases ≤ length l → y.bases - y.operations < 4 → Ops.Uses r ≡ operations_of y l place
+    pub judged_none : y.bases ≤ length l → y.bases - y.operations < 4 → Ok r ≡ operations_of y l place
     judged_none h k =
         let long = length-take-le y.bases l h in
         let none : (ops_in y l) ≡ [] = ops_short (take y.bases l) y.operations (omega (arith, long)) in
         let short : ltb 0 (length (ops_in y l)) ≡ false = ap (λ (o : List ℕ). ltb 0 (length o)) none in
-        (rw (short, and_false (ltb 0 y.count)) at (judged_as w (Totals q r) e f))
+        (rw (short, and_false (ltb 0 y.count)) at (judged_as w (Ok (totals q r)) e f))
 
-    pub judged_total : q ≡ y.count → Ops.Uses r ≡ operations_of y l place
+    pub judged_total : q ≡ y.count → Ok r ≡ operations_of y l place
     judged_total h =
-        (rw (eq-eqb q y.count h, and_false (ltb 0 y.count && ltb 0 (length (ops_in y l)))) at (judged_as w (Totals q r) e f))
+        (rw (eq-eqb q y.count h, and_false (ltb 0 y.count && ltb 0 (length (ops_in y l)))) at (judged_as w (Ok (totals q r)) e f))
 
-    pub judged_wrong : (y.count ≡ 0 → ⊥) → y.bases ≤ length l → 4 ≤ y.bases - y.operations → (q ≡ y.count → ⊥) → Ops.Refused (ReadTotal place) ≡ operations_of y l place
+    pub judged_wrong : (y.count ≡ 0 → ⊥) → y.bases ≤ length l → 4 ≤ y.bases - y.operations → (q ≡ y.count → ⊥) → Err (ReadTotal place) ≡ operations_of y l place
     judged_wrong hc hl hn h =
         let long = length-take-le y.bases l hl in
         let one = ops_step (take y.bases l) y.operations (omega (arith, long)) in
         let some : ltb 0 (length (ops_in y l)) ≡ true = lt-ltb 0 (length (ops_in y l)) (omega (arith, ap length one)) in
-        (rw (lt-ltb 0 y.count (omega arith), some, ne_eqb q y.count h) at (judged_as w (Totals q r) e f))
+        (rw (lt-ltb 0 y.count (omega arith), some, ne_eqb q y.count h) at (judged_as w (Ok (totals q r)) e f))
 
   -- ---- what an answer that is no refusal shows
-  through_kind : (k : Kind) (i : ℕ) (x : Walk) (q r : ℕ) → on_kind k i x ≡ Totals q r → x ≡ Totals q r
+  through_kind : (k : Kind) (i : ℕ) (x : Result Totals ℕ) (q r : ℕ) → on_kind k i x ≡ Ok (totals q r) → x ≡ Ok (totals q r)
   through_kind Both i x q r e = e
   through_kind Reference i x q r e = e
   through_kind Read i x q r e = e
   through_kind Neither i x q r e = e
   through_kind Unknown i x q r e = let z : ◌≡◌ {A = ℕ} 0 1 = cc in absurd (omega arith)
 
-  good_totals : (ops : List ℕ) (i : ℕ) (good : Walk) (q r : ℕ) → fault_or ops i good ≡ Totals q r → good ≡ Totals q r
+  good_totals : (ops : List ℕ) (i : ℕ) (good : Result Totals ℕ) (q r : ℕ) → fault_or ops i good ≡ Ok (totals q r) → good ≡ Ok (totals q r)
   unfolding fault_or
   good_totals [] i good q r e = e
   good_totals (w ∷ ws) i good q r e = good_totals ws (suc i) good q r (through_kind (kind w) i _ q r e)
@@ -144,13 +142,13 @@ module _ (y : Layout) (l : List ℕ) (place : ℕ) where
     pub reference : uses ≡ ref_sum (ops_in y l)
     pub read : 0 < y.count → read_sum (ops_in y l) ≤ y.count
 
-  pub good_uses : (uses : ℕ) → operations_of y l place ≡ Ops.Uses uses → Used uses
+  pub good_uses : (uses : ℕ) → operations_of y l place ≡ Ok uses → Used uses
   unfolding operations_of read_sum
   good_uses uses e = go (walk_of (ops_in y l)) refl e
     where
-      total : (q r : ℕ) → Totals (read_sum (ops_in y l)) (ref_sum (ops_in y l)) ≡ Totals q r → (ops : List ℕ) → ops ≡ (ops_in y l)
+      total : (q r : ℕ) → Ok (totals (read_sum (ops_in y l)) (ref_sum (ops_in y l))) ≡ Ok (totals q r) → (ops : List ℕ) → ops ≡ (ops_in y l)
           → (s t u : Bool) → ltb 0 y.count ≡ s → ltb 0 (length ops) ≡ t → eqb q y.count ≡ u
-          → cond (s && t && not u) (Ops.Refused (ReadTotal place)) (Ops.Uses r) ≡ Ops.Uses uses → Used uses
+          → cond (s && t && not u) (Err (ReadTotal place)) (Ok r) ≡ Ok uses → Used uses
       total q r f ops eo true true true es et eu g =
           let a : ref_sum (ops_in y l) ≡ r = cc in
           let b : read_sum (ops_in y l) ≡ q = cc in
@@ -168,20 +166,20 @@ module _ (y : Layout) (l : List ℕ) (place : ℕ) where
           let c : r ≡ uses = cc in
           record { reference = omega arith; read = λ h. absurd (omega (arith, ltb-false 0 y.count es)) }
 
-      go : (w : Walk) → walk_of (ops_in y l) ≡ w → judged y.count (length (ops_in y l)) place w ≡ Ops.Uses uses → Used uses
-      go (Totals q r) f g = total q r (good_totals (ops_in y l) 0 _ q r f) (ops_in y l) refl (ltb 0 y.count) (ltb 0 (length (ops_in y l))) (eqb q y.count) refl refl refl g
-      go (UnknownCode i) f g = let z : ◌≡◌ {A = ℕ} 0 1 = cc in absurd (omega arith)
+      go : (w : Result Totals ℕ) → walk_of (ops_in y l) ≡ w → judged y.count (length (ops_in y l)) place w ≡ Ok uses → Used uses
+      go (Ok (totals q r)) f g = total q r (good_totals (ops_in y l) 0 _ q r f) (ops_in y l) refl (ltb 0 y.count) (ltb 0 (length (ops_in y l))) (eqb q y.count) refl refl refl g
+      go (Err i) f g = let z : ◌≡◌ {A = ℕ} 0 1 = cc in absurd (omega arith)
 
 pub record Covered (pos uses : ℕ) (e : Extent) : Type 0 where
   pub first : e.start.0 ≡ pos + 1
   pub past : e.end.0 ≡ pos + 1 + uses
   pub last : pos + uses ≤ 2147483646
 
-pub good_span : (pos uses place : ℕ) (e : Extent) → span_of pos uses place ≡ Spans.Covers e → Covered pos uses e
+pub good_span : (pos uses place : ℕ) (e : Extent) → span_of pos uses place ≡ Ok e → Covered pos uses e
 unfolding span_of
 good_span pos uses place e h = go (ltb 2147483646 (pos + uses)) refl h
   where
-    go : (t : Bool) → ltb 2147483646 (pos + uses) ≡ t → cond t (Spans.Refused (ReferenceEnd place)) (Spans.Covers (extent pos uses)) ≡ Spans.Covers e → Covered pos uses e
+    go : (t : Bool) → ltb 2147483646 (pos + uses) ≡ t → cond t (Err (ReferenceEnd place)) (Ok (extent pos uses)) ≡ Ok e → Covered pos uses e
     go true f g = let z : ◌≡◌ {A = ℕ} 0 1 = cc in absurd (omega arith)
     go false f g =
         let s : extent pos uses ≡ e = cc in

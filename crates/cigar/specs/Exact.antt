@@ -1,9 +1,8 @@
 -- When refusals 5 and 7 are given, in the document's words.
-use Rattle.std.specs.Prelude.{ℕ, ◌%◌, ◌≤◌, ◌<◌, ◌≡◌, List, ◌∷◌, ◌++◌, ◌↔◌, ◌⊎◌, length}
+use Rattle.refusal.specs.declared.Refusal.{Refusal}
+use Rattle.std.specs.Prelude.{ℕ, ◌%◌, ◌≤◌, ◌<◌, ◌≡◌, List, ◌∷◌, ◌++◌, ◌↔◌, ◌⊎◌, length, Result, Ok, Err}
 use Rattle.refusal.specs.declared.Refusal.TheVariants.{OperationCode, ReadTotal}
 use Rattle.cigar.specs.Operation.{read_sum, ref_sum}
-use Rattle.cigar.specs.declared.Operations.{Operations}
-use Rattle.cigar.specs.declared.Operations.TheVariants as Ops
 
 -- 5: operation code above 8
 abbrev pub BadCode : ℕ → Type 0
@@ -28,8 +27,8 @@ abbrev pub BadTotal : ℕ → List ℕ → Type 0
 BadTotal count ops = (0 < count) × (0 < length ops) × (read_sum ops ≡ count → ⊥)
 
 -- r answers the operations of a record of `count` bases: each answer is given exactly when its condition holds, and it is one of these three
-pub record GivenExactly (count : ℕ) (ops : List ℕ) (place : ℕ) (r : Operations) : Type 0 where
-  pub code : (i : ℕ) → (r ≡ Ops.Refused (OperationCode place i)) ↔ FirstFault ops i
-  pub total : (r ≡ Ops.Refused (ReadTotal place)) ↔ (Faultless ops × BadTotal count ops)
-  pub uses : (n : ℕ) → (r ≡ Ops.Uses n) ↔ (Faultless ops × (BadTotal count ops → ⊥) × (n ≡ ref_sum ops))
-  pub decided : ((i : ℕ) × (r ≡ Ops.Refused (OperationCode place i))) ⊎ ((r ≡ Ops.Refused (ReadTotal place)) ⊎ (r ≡ Ops.Uses (ref_sum ops)))
+pub record GivenExactly (count : ℕ) (ops : List ℕ) (place : ℕ) (r : Result ℕ Refusal) : Type 0 where
+  pub code : (i : ℕ) → (r ≡ Err (OperationCode place i)) ↔ FirstFault ops i
+  pub total : (r ≡ Err (ReadTotal place)) ↔ (Faultless ops × BadTotal count ops)
+  pub uses : (n : ℕ) → (r ≡ Ok n) ↔ (Faultless ops × (BadTotal count ops → ⊥) × (n ≡ ref_sum ops))
+  pub decided : ((i : ℕ) × (r ≡ Err (OperationCode place i))) ⊎ ((r ≡ Err (ReadTotal place)) ⊎ (r ≡ Ok (ref_sum ops)))

@@ -26,19 +26,11 @@ pub struct Cursor {
     pub left: usize,
 }
 
-// How much of the read and of the reference all operations use, or the index of the first that has an
-// unknown code.
+// How much of the read and of the reference operations use.
 #[derive(Clone, Copy)]
-pub enum Walk {
-    Totals(usize, usize),
-    UnknownCode(u16),
-}
-
-// A record's operations judged: how much of the reference they use, or the refusal.
-#[derive(Clone, Copy)]
-pub enum Operations {
-    Uses(usize),
-    Refused(Refusal),
+pub struct Totals {
+    pub read: usize,
+    pub reference: usize,
 }
 
 // The positions that an alignment covers: from `start` on, up to but not `end`.
@@ -46,13 +38,6 @@ pub enum Operations {
 pub struct Extent {
     pub start: RefPos,
     pub end: RefPos,
-}
-
-// What an alignment covers, or the refusal of one that ends too late.
-#[derive(Clone, Copy)]
-pub enum Span {
-    Covers(Extent),
-    Refused(Refusal),
 }
 
 // How much of the read an operation uses.
@@ -105,7 +90,7 @@ fn index_at(from: usize, at: usize) -> u16
 }
 
 // The operations between two bytes, front to back.
-fn walk_operations(s: &[u8], from: usize, end: usize) -> Walk
+fn walk_operations(s: &[u8], from: usize, end: usize) -> Result<Totals, u16>
     requires { (from ≤ end) × (end ≤ length s.now) × (length s.now ≤ 65536) }
     ensures { result ≡ walk_of (operations from end s.now) }
 {
@@ -115,17 +100,17 @@ fn walk_operations(s: &[u8], from: usize, end: usize) -> Walk
     while 4 <= end - at {
         let op = operation_at(s, at);
         if unknown(op) {
-            return Walk::UnknownCode(index_at(from, at));
+            return Err(index_at(from, at));
         }
         read += read_len(op);
         reference += ref_len(op);
         at += 4;
     }
-    Walk::Totals(read, reference)
+    Ok(Totals { read, reference })
 }
 
 // Refusals 5 and 7 of a record with this layout.
-pub fn check_operations(s: &[u8], y: Layout, place: u16) -> Operations
+pub fn check_operations(s: &[u8], y: Layout, place: u16) -> Result<usize, Refusal>
     requires { Lies y (length s.now) × (length s.now ≤ 65536) }
     ensures { result ≡ operations_of y s.now place }
 {
@@ -133,35 +118,35 @@ pub fn check_operations(s: &[u8], y: Layout, place: u16) -> Operations
     let end = y.bases;
     let w = walk_operations(s, from, end);
     match w {
-        Walk::UnknownCode(i) => Operations::Refused(Refusal::OperationCode(place, i)),
-        Walk::Totals(read, reference) => {
+        Err(i) => Err(Refusal::OperationCode(place, i)),
+        Ok(Totals { read, reference }) => {
             let count = y.count;
             if count == 0 {
-                return Operations::Uses(reference);
+                return Ok(reference);
             }
             if end - from < 4 {
-                return Operations::Uses(reference);
+                return Ok(reference);
             }
             if read == count {
-                return Operations::Uses(reference);
+                return Ok(reference);
             }
-            Operations::Refused(Refusal::ReadTotal(place))
+            Err(Refusal::ReadTotal(place))
         }
     }
 }
 
 // Refusal 8 of an alignment that uses so much of the reference from `pos` on, counted from 0.
-pub fn check_span(pos: u32, uses: usize, place: u16) -> Span
+pub fn check_span(pos: u32, uses: usize, place: u16) -> Result<Extent, Refusal>
     ensures { result ≡ span_of pos uses place }
 {
     let start = pos as usize;
     if 2147483646 < start {
-        return Span::Refused(Refusal::ReferenceEnd(place));
+        return Err(Refusal::ReferenceEnd(place));
     }
     if 2147483646 - start < uses {
-        return Span::Refused(Refusal::ReferenceEnd(place));
+        return Err(Refusal::ReferenceEnd(place));
     }
-    Span::Covers(Extent {
+    Ok(Extent {
         start: RefPos(start + 1),
         end: RefPos(start + 1 + uses),
     })

@@ -1,4 +1,5 @@
 -- Laws of the record check: what a record that passes is known to hold, and what the check looks at. Assumes nothing.
+use Rattle.std.specs.Prelude.{Result, Ok, Err}
 use mathlib.Core.Bool.{Bool, true, false, cond}
 use mathlib.Core.List.{List}
 use mathlib.Core.Path.{◌≡◌, refl, ap, sym, ◌∙◌}
@@ -14,12 +15,10 @@ use Rattle.fields.specs.Layout.{Header, header, bases_at, tags_at, layout_of}
 use Rattle.fields.specs.Check.{check_of}
 use Rattle.fields.specs.Sound.{Sound}
 use Rattle.fields.specs.declared.Layout.{Layout}
-use Rattle.fields.specs.declared.Checked.{Checked}
-use Rattle.fields.specs.declared.Checked.TheVariants.{Good, Bad}
 use Rattle.fields.proofs.NumberLaws.{le_same}
 
 -- a test that would have refused did not hold
-passed : (t : Bool) (r : Refusal) (x : Checked) (y : Layout) → cond t (Bad r) x ≡ Good y → (t ≡ false) × (x ≡ Good y)
+passed : (t : Bool) (r : Refusal) (x : Result Layout Refusal) (y : Layout) → cond t (Err r) x ≡ Ok y → (t ≡ false) × (x ≡ Ok y)
 passed true r x y e = let z : ◌≡◌ {A = ℕ} 0 1 = cc in absurd (omega arith)
 passed false r x y e = (refl, e)
 
@@ -31,18 +30,18 @@ record Passes (s : List ℕ) (y : Layout) : Type 0 where
   qualities : ltb (length s) (tags_at s) ≡ false
   layout : y ≡ layout_of s
 
-passes : (s : List ℕ) (p : ℕ) (y : Layout) → check_of s p ≡ Good y → Passes s y
+passes : (s : List ℕ) (p : ℕ) (y : Layout) → check_of s p ≡ Ok y → Passes s y
 unfolding check_of
 passes s p y e =
     let a = passed _ _ _ _ e in
     let b = passed _ _ _ _ a.1 in
     let o = passed _ _ _ _ b.1 in
     let q = passed _ _ _ _ o.1 in
-    let g : Good (layout_of s) ≡ Good y = q.1 in
+    let g : Ok (layout_of s) ≡ Ok y = q.1 in
     record { short = a.0; long = b.0; operations = o.0; qualities = q.0; layout = cc }
 
 -- what a record that passes is known to hold
-pub good_sound : (s : List ℕ) (p : ℕ) (y : Layout) → check_of s p ≡ Good y → Sound s y
+pub good_sound : (s : List ℕ) (p : ℕ) (y : Layout) → check_of s p ≡ Ok y → Sound s y
 good_sound s p y e =
     let t = passes s p y e in
     let n : tags_at s ≤ length s = ltb-false _ _ t.qualities in
@@ -55,14 +54,14 @@ good_sound s p y e =
     }
 
 -- and a record that holds it passes, at any place
-pub sound_good : (s : List ℕ) (y : Layout) → Sound s y → (p : ℕ) → check_of s p ≡ Good y
+pub sound_good : (s : List ℕ) (y : Layout) → Sound s y → (p : ℕ) → check_of s p ≡ Ok y
 unfolding check_of
 sound_good s y h p =
     let n : tags_at s ≤ length s = (rw h.layout at h.lies).qualities in
     simp (le-ltb _ _ h.fixed, le-ltb _ _ h.allowed, le-ltb (length s) (bases_at s) (omega arith), le-ltb _ _ n, h.layout)
 
 -- whether a record passes does not depend on its place
-pub good_any_place : (s : List ℕ) (p : ℕ) (y : Layout) → check_of s p ≡ Good y → (q : ℕ) → check_of s q ≡ Good y
+pub good_any_place : (s : List ℕ) (p : ℕ) (y : Layout) → check_of s p ≡ Ok y → (q : ℕ) → check_of s q ≡ Ok y
 unfolding check_of
 good_any_place s p y e q =
     let t = passes s p y e in

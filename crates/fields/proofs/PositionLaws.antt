@@ -1,4 +1,5 @@
 -- Laws of signed numbers: those read from 32 bits, positions that may be negative, and ids. Assumes nothing.
+use Rattle.std.specs.Prelude.{Some, None}
 use mathlib.Core.Path.{◌≡◌, refl, ap, sym, ◌∙◌}
 use mathlib.Core.Bool.{Bool, true, false, true≢false, false≢true}
 use Prim.Native.Nat.{ℕ, zero, suc, ◌-◌, ◌^◌, ◌<◌, ◌≤◌}
@@ -13,7 +14,6 @@ use mir.Val.{SFits, Fits, to_z, of_z}
 use mir.Facts.{to_z_pos, to_z-of_z}
 use Rattle.fields.specs.Number.{signed32}
 use Rattle.fields.specs.Position.{position_of, same_id}
-use Rattle.fields.specs.declared.Position.TheVariants.{At, Unplaced}
 
 minus_one : (k : ℕ) → negsuc 0 -ℤ pos k ≡ negsuc k
 minus_one zero = refl
@@ -32,12 +32,12 @@ module _ (u : ℕ) (h : 2147483648 ≤ u) (l : u < 4294967296) where
   below_is = to_z-of_z below_fits ∙ below ∙ simp (le-ltb u 2147483648 h)
 
 -- a position below zero is none
-pub negative : (p : ℤ) → lt_z p (pos 0) ≡ true → Unplaced ≡ position_of p
+pub negative : (p : ℤ) → lt_z p (pos 0) ≡ true → None ≡ position_of p
 negative (pos n) e = absurd (let h : n < 0 = ltb-true n 0 e in omega arith)
 negative (negsuc n) e = refl
 
 -- any other fits 32 bits without a sign
-pub not_negative : (p : ℤ) → SFits w32 p → lt_z p (pos 0) ≡ false → T (non_neg p) × Fits w32 (nat_abs p) × (At (nat_abs p) ≡ position_of p)
+pub not_negative : (p : ℤ) → SFits w32 p → lt_z p (pos 0) ≡ false → T (non_neg p) × Fits w32 (nat_abs p) × (Some (nat_abs p) ≡ position_of p)
 not_negative (pos n) f e = let h : n < 2 ^ 31 = f.sfits in (tt, record { fits = omega arith }, refl)
 not_negative (negsuc n) f e = absurd (true≢false e)
 

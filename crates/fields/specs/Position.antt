@@ -1,12 +1,10 @@
 -- Signed positions and ids; negsuc k is -(k + 1).
-use Rattle.std.specs.Prelude.{Bool, false, eqb, ℤ, pos, negsuc}
-use Rattle.fields.specs.declared.Position.{Position}
-use Rattle.fields.specs.declared.Position.TheVariants.{At, Unplaced}
+use Rattle.std.specs.Prelude.{Bool, false, eqb, ℤ, pos, negsuc, Option, ℕ, Some, None}
 
 -- a negative position is none
-abbrev pub position_of : ℤ → Position
-position_of (pos n) = At n
-position_of (negsuc n) = Unplaced
+abbrev pub position_of : ℤ → Option ℕ
+position_of (pos n) = Some n
+position_of (negsuc n) = None
 
 -- two ids are equal
 abbrev pub same_id : ℤ → ℤ → Bool

@@ -207,21 +207,14 @@ pub fn l_seq(s: &[u8]) -> u32
     u32_at(s, 16)
 }
 
-// A position on the reference, counted from 0, or none.
-#[derive(Clone, Copy)]
-pub enum Position {
-    At(u32),
-    Unplaced,
-}
-
 // Where a record with this position is placed: nowhere if it is negative.
-pub fn position_of(p: i32) -> Position
+pub fn position_of(p: i32) -> Option<u32>
     ensures { result ≡ position_of p }
 {
     if p < 0 {
-        return Position::Unplaced;
+        return None;
     }
-    Position::At(p as u32)
+    Some(p as u32)
 }
 
 // Whether two reference ids are the same one. Two ids of -1 are.
@@ -232,7 +225,7 @@ pub fn same_id(a: i32, b: i32) -> bool
 }
 
 // The record's position, where it has one.
-pub fn start_of(s: &[u8]) -> Position
+pub fn start_of(s: &[u8]) -> Option<u32>
     requires { 32 ≤ length s.now }
     ensures { result ≡ position_of (header s.now).pos }
 {
@@ -281,29 +274,22 @@ pub fn layout_of(s: &[u8]) -> Layout
     }
 }
 
-// What the check of a record finds: where its parts lie, or why it is refused.
-#[derive(Clone, Copy)]
-pub enum Checked {
-    Good(Layout),
-    Bad(Refusal),
-}
-
 // Whether the record's length is allowed and its parts lie within it. `place` is what a refusal names.
-pub fn check_record(s: &[u8], place: u16) -> Checked
+pub fn check_record(s: &[u8], place: u16) -> Result<Layout, Refusal>
     ensures { result ≡ check_of s.now place }
 {
     if s.len() < FIXED {
-        return Checked::Bad(Refusal::RecordShort(place));
+        return Err(Refusal::RecordShort(place));
     }
     if LONGEST < s.len() {
-        return Checked::Bad(Refusal::RecordLong(place));
+        return Err(Refusal::RecordLong(place));
     }
     let y = layout_of(s);
     if s.len() < y.bases {
-        return Checked::Bad(Refusal::NameAndOperations(place));
+        return Err(Refusal::NameAndOperations(place));
     }
     if s.len() < y.qualities + y.count {
-        return Checked::Bad(Refusal::BasesAndQualities(place));
+        return Err(Refusal::BasesAndQualities(place));
     }
-    Checked::Good(y)
+    Ok(y)
 }

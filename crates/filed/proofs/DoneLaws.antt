@@ -1,4 +1,5 @@
 -- A filed group is answered "already done" exactly when its trailer says so, and a raw one never is. Assumes nothing.
+use Rattle.std.specs.Prelude.{Result, Ok, Err}
 use Prim.Native.Nat.{ℕ, ◌+◌}
 use mathlib.Core.Path.{◌≡◌, refl, ap}
 use mathlib.Core.Bool.{Bool, true, false, cond}
@@ -16,8 +17,6 @@ use Rattle.group_frames.specs.Frame.{begin_of}
 use Rattle.group.specs.declared.GroupAnswer.{GroupAnswer}
 use Rattle.group.specs.declared.GroupAnswer.TheVariants as Groups
 use Rattle.group.specs.Group as Group
-use Rattle.filed_ending.specs.declared.Ending.{Ending}
-use Rattle.filed_ending.specs.declared.Ending.TheVariants.{At, Missing, Broken}
 use Rattle.filed_ending.specs.Ending.{ending_of}
 use Rattle.filed_ending.proofs.EndLaws.{ends_of}
 use Rattle.filed_trailer.specs.declared.Trailer.{Trailer}
@@ -54,7 +53,7 @@ module _ (s out : List ℕ) (g : CorrectionStats) (n : ℕ) (h : CorrectionStats
     t = trailer_at s p
 
     -- the trailer behind m frames
-    done_trailer : ending_of s ≡ At m → length s ≡ p + 50 → IsDone (on_trailer s out g m p t) → MarkedDone s n h
+    done_trailer : ending_of s ≡ Ok m → length s ≡ p + 50 → IsDone (on_trailer s out g m p t) → MarkedDone s n h
     done_trailer ends size c = go (wrong t m p) (eqb t.state 1) refl refl c
       where
         go : (v w : Bool) → wrong t m p ≡ v → eqb t.state 1 ≡ w
@@ -70,16 +69,16 @@ module _ (s out : List ℕ) (g : CorrectionStats) (n : ℕ) (h : CorrectionStats
             rw en at grown
 
     -- what stands behind them
-    done_size : ending_of s ≡ At m → (v : Bool) → eqb (length s) (p + 50) ≡ v
+    done_size : ending_of s ≡ Ok m → (v : Bool) → eqb (length s) (p + 50) ≡ v
         → IsDone (cond v (on_trailer s out g m p t) (ended (Refused TrailerMissing) out g)) → MarkedDone s n h
     done_size ends true e d = done_trailer ends (eqb-true (length s) (p + 50) e) d
     done_size ends false e d = absurd (refused_not TrailerMissing d)
 
   -- how the frames end
-  done_ending : (x : Ending) → ending_of s ≡ x → IsDone (on_ending s out g x) → MarkedDone s n h
-  done_ending (Broken r) e d = absurd (refused_not r d)
-  done_ending Missing e d = absurd (refused_not TrailerMissing d)
-  done_ending (At m) e d = done_size m e (eqb (length s) (begin_of s m + 50)) refl d
+  done_ending : (x : Result ℕ Refusal) → ending_of s ≡ x → IsDone (on_ending s out g x) → MarkedDone s n h
+  done_ending (Err r) e d = absurd (refused_not r d)
+  done_ending (Err TrailerMissing) e d = absurd (refused_not TrailerMissing d)
+  done_ending (Ok m) e d = done_size m e (eqb (length s) (begin_of s m + 50)) refl d
 
   -- a group that is answered so is marked so
   done_marked : IsDone (filed_of s out g) → (full g ≡ false) × MarkedDone s n h
@@ -105,7 +104,7 @@ pub raw_not_done : (s out : List ℕ) (g : CorrectionStats) (m : ℕ) → Marked
     → (n : ℕ) (h : CorrectionStats) → (filed_of s out g).answer ≡ AlreadyDone n h → ⊥
 raw_not_done s out g m raw n h e =
     let d = (done_marked s out g n h e).1 in
-    let same : At m ≡ At n = rw raw.ends at d.ends in
+    let same : Ok m ≡ Ok n = rw raw.ends at d.ends in
     let en : m ≡ n = cc in
     let zero : (trailer_at s (begin_of s n)).state ≡ 0 = rw en at raw.state in
     omega (arith, d.state)

@@ -1,4 +1,6 @@
 -- Where no group is corrected, every byte of the output and every count is as it came. Assumes nothing.
+use Rattle.std.specs.Prelude.{Result, Ok, Err}
+use Rattle.refusal.specs.declared.Refusal.{Refusal}
 use Prim.Native.Nat.{ℕ, ◌+◌}
 use mathlib.Core.Path.{refl}
 use mathlib.Core.Bool.{Bool, true, false, cond}
@@ -12,8 +14,6 @@ use Rattle.group_frames.specs.Frame.{begin_of}
 use Rattle.group.specs.declared.GroupAnswer.{GroupAnswer}
 use Rattle.group.specs.declared.GroupAnswer.TheVariants as Groups
 use Rattle.group.specs.Group as Group
-use Rattle.filed_ending.specs.declared.Ending.{Ending}
-use Rattle.filed_ending.specs.declared.Ending.TheVariants.{At, Missing, Broken}
 use Rattle.filed_ending.specs.Ending.{ending_of}
 use Rattle.filed_trailer.specs.declared.Trailer.{Trailer}
 use Rattle.filed_trailer.specs.Trailer.{trailer_at, wrong}
@@ -35,10 +35,10 @@ module _ (s out : List ℕ) (g : CorrectionStats) where
   on_trailer_lem n p t false true = (refl, refl)
   on_trailer_lem n p t false false = on_group_lem p (group_in s p t.strategies).answer (group_in s p t.strategies)
 
-  on_ending_lem : (x : Ending) → Kept out g (on_ending s out g x)
-  on_ending_lem (Broken r) = (refl, refl)
-  on_ending_lem Missing = (refl, refl)
-  on_ending_lem (At n) = go (eqb (length s) (begin_of s n + 50))
+  on_ending_lem : (x : Result ℕ Refusal) → Kept out g (on_ending s out g x)
+  on_ending_lem (Err r) = (refl, refl)
+  on_ending_lem (Err TrailerMissing) = (refl, refl)
+  on_ending_lem (Ok n) = go (eqb (length s) (begin_of s n + 50))
     where
       go : (v : Bool) → Kept out g (cond v (on_trailer s out g n (begin_of s n) (trailer_at s (begin_of s n))) (ended (Refused TrailerMissing) out g))
       go true = on_trailer_lem n (begin_of s n) (trailer_at s (begin_of s n)) (wrong (trailer_at s (begin_of s n)) n (begin_of s n)) (eqb (trailer_at s (begin_of s n)).state 1)

@@ -1,4 +1,5 @@
 -- What is known of a call that corrected a filed group. Assumes nothing.
+use Rattle.std.specs.Prelude.{Result, Ok, Err}
 use Prim.Native.Nat.{ℕ, ◌+◌, ◌≤◌}
 use mathlib.Core.Path.{◌≡◌, refl, sym, ◌∙◌, ap}
 use mathlib.Core.Bool.{Bool, true, false, cond}
@@ -15,8 +16,6 @@ use Rattle.group_frames.specs.Frame.{begin_of}
 use Rattle.group.specs.declared.GroupAnswer.{GroupAnswer}
 use Rattle.group.specs.declared.GroupAnswer.TheVariants as Groups
 use Rattle.group.specs.Group as Group
-use Rattle.filed_ending.specs.declared.Ending.{Ending}
-use Rattle.filed_ending.specs.declared.Ending.TheVariants.{At, Missing, Broken}
 use Rattle.filed_ending.specs.Ending.{ending_of}
 use Rattle.filed_trailer.specs.Trailer.{trailer_at, wrong}
 use Rattle.filed.specs.declared.FiledAnswer.TheVariants.{Corrected, AlreadyDone, Refused}
@@ -89,21 +88,21 @@ module _ (s out : List ℕ) (g : CorrectionStats) (n q o : ℕ) (h : CorrectionS
         go true f c = absurd (refused_not TrailerField c)
         go false f c = state f (eqb (trailer_at s p).state 1) refl c
 
-  pub made : filed_of s out g ≡ ended (Corrected n q o h) b g' → (m : ℕ) × ((ending_of s ≡ At m) × Made s out n q o h b m)
+  pub made : filed_of s out g ≡ ended (Corrected n q o h) b g' → (m : ℕ) × ((ending_of s ≡ Ok m) × Made s out n q o h b m)
   unfolding filed_of
   made e = counts (full g) e
     where
-      ending : (x : Ending) → ending_of s ≡ x → on_ending s out g x ≡ ended (Corrected n q o h) b g' → (m : ℕ) × ((ending_of s ≡ At m) × Made s out n q o h b m)
-      ending (Broken r) f c = absurd (refused_not r c)
-      ending Missing f c = absurd (refused_not TrailerMissing c)
-      ending (At m) f c = go (eqb (length s) (begin_of s m + 50)) refl c
+      ending : (x : Result ℕ Refusal) → ending_of s ≡ x → on_ending s out g x ≡ ended (Corrected n q o h) b g' → (m : ℕ) × ((ending_of s ≡ Ok m) × Made s out n q o h b m)
+      ending (Err r) f c = absurd (refused_not r c)
+      ending (Err TrailerMissing) f c = absurd (refused_not TrailerMissing c)
+      ending (Ok m) f c = go (eqb (length s) (begin_of s m + 50)) refl c
         where
           go : (t : Bool) → eqb (length s) (begin_of s m + 50) ≡ t
               → cond t (on_trailer s out g m (begin_of s m) (trailer_at s (begin_of s m))) (ended (Refused TrailerMissing) out g) ≡ ended (Corrected n q o h) b g'
-              → (m : ℕ) × ((ending_of s ≡ At m) × Made s out n q o h b m)
+              → (m : ℕ) × ((ending_of s ≡ Ok m) × Made s out n q o h b m)
           go true z d = (m, (f, made_trailer m (eqb-true (length s) (begin_of s m + 50) z) d))
           go false z d = absurd (refused_not TrailerMissing d)
 
-      counts : (t : Bool) → cond t (ended (Refused Count) out g) (on_ending s out g (ending_of s)) ≡ ended (Corrected n q o h) b g' → (m : ℕ) × ((ending_of s ≡ At m) × Made s out n q o h b m)
+      counts : (t : Bool) → cond t (ended (Refused Count) out g) (on_ending s out g (ending_of s)) ≡ ended (Corrected n q o h) b g' → (m : ℕ) × ((ending_of s ≡ Ok m) × Made s out n q o h b m)
       counts true c = absurd (refused_not Count c)
       counts false c = ending (ending_of s) refl c

@@ -1,4 +1,5 @@
 -- What the room behind the output does to a call: nothing, where there is enough of it. Assumes nothing.
+use Rattle.std.specs.Prelude.{Result, Ok, Err}
 use Prim.Native.Nat.{ℕ, ◌+◌, ◌≤◌}
 use mathlib.Core.Path.{◌≡◌, refl, ◌∙◌, ap}
 use mathlib.Core.Bool.{Bool, true, false, cond}
@@ -16,8 +17,6 @@ use Rattle.group_frames.specs.Frame.{begin_of}
 use Rattle.group.specs.declared.GroupAnswer.{GroupAnswer}
 use Rattle.group.specs.declared.GroupAnswer.TheVariants as Groups
 use Rattle.group.specs.Group as Group
-use Rattle.filed_ending.specs.declared.Ending.{Ending}
-use Rattle.filed_ending.specs.declared.Ending.TheVariants.{At, Missing, Broken}
 use Rattle.filed_ending.specs.Ending.{ending_of}
 use Rattle.filed_trailer.specs.Trailer.{trailer_at, wrong}
 use Rattle.filed.specs.declared.FiledAnswer.TheVariants.{Corrected, AlreadyDone, Refused}
@@ -32,7 +31,7 @@ pub data Outcome (s out : List ℕ) (g : CorrectionStats) (x y : Ended) : Type 0
   refused : (r : Refusal) → x ≡ ended (Refused r) out g → y ≡ ended (Refused r) s g → Outcome s out g x y
 
 module _ (s out : List ℕ) (g : CorrectionStats) (long : length s ≤ length out) where
-  module _ (m : ℕ) (ends : ending_of s ≡ At m) (size : length s ≡ begin_of s m + 50) where
+  module _ (m : ℕ) (ends : ending_of s ≡ Ok m) (size : length s ≡ begin_of s m + 50) where
     abbrev p : ℕ
     p = begin_of s m
 
@@ -61,15 +60,15 @@ module _ (s out : List ℕ) (g : CorrectionStats) (long : length s ≤ length ou
     on_trailer_lem true = refused TrailerField refl refl
     on_trailer_lem false = on_state (eqb (trailer_at s p).state 1)
 
-  on_size : (m : ℕ) → ending_of s ≡ At m → (t : Bool) → eqb (length s) (begin_of s m + 50) ≡ t
+  on_size : (m : ℕ) → ending_of s ≡ Ok m → (t : Bool) → eqb (length s) (begin_of s m + 50) ≡ t
       → Outcome s out g (cond t (on_trailer s out g m (begin_of s m) (trailer_at s (begin_of s m))) (ended (Refused TrailerMissing) out g)) (cond t (on_trailer s s g m (begin_of s m) (trailer_at s (begin_of s m))) (ended (Refused TrailerMissing) s g))
   on_size m e true f = on_trailer_lem m e (eqb-true (length s) (begin_of s m + 50) f) (wrong (trailer_at s (begin_of s m)) m (begin_of s m))
   on_size m e false f = refused TrailerMissing refl refl
 
-  on_ending_lem : (x : Ending) → ending_of s ≡ x → Outcome s out g (on_ending s out g x) (on_ending s s g x)
-  on_ending_lem (Broken r) e = refused r refl refl
-  on_ending_lem Missing e = refused TrailerMissing refl refl
-  on_ending_lem (At m) e = on_size m e (eqb (length s) (begin_of s m + 50)) refl
+  on_ending_lem : (x : Result ℕ Refusal) → ending_of s ≡ x → Outcome s out g (on_ending s out g x) (on_ending s s g x)
+  on_ending_lem (Err r) e = refused r refl refl
+  on_ending_lem (Err TrailerMissing) e = refused TrailerMissing refl refl
+  on_ending_lem (Ok m) e = on_size m e (eqb (length s) (begin_of s m + 50)) refl
 
   on_counts : (t : Bool) → Outcome s out g (cond t (ended (Refused Count) out g) (on_ending s out g (ending_of s))) (cond t (ended (Refused Count) s g) (on_ending s s g (ending_of s)))
   on_counts true = refused Count refl refl

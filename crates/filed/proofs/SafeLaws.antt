@@ -1,4 +1,5 @@
 -- What a call wrote is known for corrected, and no proper front of it passes. Assumes nothing.
+use Rattle.std.specs.Prelude.{Result, Ok, Err}
 use Prim.Native.Nat.{ℕ, ◌+◌, ◌/◌, ◌%◌, ◌<◌, ◌≤◌}
 use mathlib.Core.Path.{◌≡◌, refl, sym, ◌∙◌, ap, subst}
 use mathlib.Core.Bool.{Bool, true, false, cond}
@@ -17,15 +18,12 @@ use Rattle.stats.specs.Room.{AtMost}
 use Rattle.stats.proofs.CountLaws.{most_less}
 use Rattle.strategy.specs.declared.Strategies.{Strategies}
 use Rattle.group_frames.specs.Frame.{begin_of}
-use Rattle.group_frames.specs.declared.Framing.TheVariants.{Whole}
 use Rattle.filed_writing.proofs.GrowthLaws.{all_most}
 use Rattle.group.specs.declared.GroupAnswer.TheVariants as Groups
 use Rattle.group.specs.Group as Group
 use Rattle.group.specs.Promise.{Accepted}
 use Rattle.group.proofs.PromiseLaws.{accepted, accepted_grown}
 use Rattle.group.proofs.KeptLaws.{frames_stay}
-use Rattle.filed_ending.specs.declared.Ending.{Ending}
-use Rattle.filed_ending.specs.declared.Ending.TheVariants.{At, Missing, Broken}
 use Rattle.filed_ending.specs.Ending.{ending_of}
 use Rattle.filed_ending.proofs.EndLaws.{Ends, ends_of, ending_at, ends_left, one_end, ends_front, zero_left, whole_ends, before_size, before_whole}
 use Rattle.filed_trailer.specs.declared.Trailer.{Trailer}
@@ -48,10 +46,10 @@ module _ (z : List ℕ) (n : ℕ) (ends : Ends z n) (size : length z ≡ begin_o
       let f = ends_front (take k z) z m e (omega (arith, front_size)) (sym (take-take (begin_of (take k z) m + 4) k z (omega (arith, front_size)))) in
       sym f.1 ∙ ap (begin_of z) (one_end z m n f.0 ends)
 
-  torn_end : (out : List ℕ) (g : CorrectionStats) (x : Ending) → ending_of (take k z) ≡ x → (r : Refusal) × (on_ending (take k z) out g x ≡ ended (Refused r) out g)
-  torn_end out g (Broken r) e = (r, refl)
-  torn_end out g Missing e = (TrailerMissing, refl)
-  torn_end out g (At m) e =
+  torn_end : (out : List ℕ) (g : CorrectionStats) (x : Result ℕ Refusal) → ending_of (take k z) ≡ x → (r : Refusal) × (on_ending (take k z) out g x ≡ ended (Refused r) out g)
+  torn_end out g (Err r) e = (r, refl)
+  torn_end out g (Err TrailerMissing) e = (TrailerMissing, refl)
+  torn_end out g (Ok m) e =
       let b = same_end m (ends_of (take k z) m e) in
       (TrailerMissing, rw (ne_eqb (length (take k z)) (begin_of (take k z) m + 50) (λ q. omega (arith, front_size))) refl)
 
@@ -73,7 +71,7 @@ known z n e l w s = record {
 }
 
 -- ---- the frames of a corrected group, where the frames of s end before 50 bytes
-module _ (s : List ℕ) (m : ℕ) (ends : ending_of s ≡ At m) (size : length s ≡ begin_of s m + 50) where
+module _ (s : List ℕ) (m : ℕ) (ends : ending_of s ≡ Ok m) (size : length s ≡ begin_of s m + 50) where
   abbrev p : ℕ
   p = begin_of s m
 
@@ -108,7 +106,7 @@ module _ (s : List ℕ) (m : ℕ) (ends : ending_of s ≡ At m) (size : length s
     call = given.1
 
     same_records : m ≡ n
-    same_records = let e : Whole m ≡ Whole n = sym (before_whole s m (ends_of s m ends)) ∙ call.framed in cc
+    same_records = let e : Ok m ≡ Ok n = sym (before_whole s m (ends_of s m ends)) ∙ call.framed in cc
 
     frames_length : length u ≡ p
     frames_length = call.size ∙ front_length

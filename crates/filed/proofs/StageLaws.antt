@@ -1,4 +1,5 @@
 -- The whole call by its stages, as the code meets them.
+use Rattle.std.specs.Prelude.{Result, Ok, Err}
 use Prim.Native.Nat.{ℕ, ◌+◌, ◌/◌, ◌%◌, ◌≤◌, ◌<◌}
 use mathlib.Core.Path.{◌≡◌, refl, sym, ◌∙◌, ap, ap₂}
 use mathlib.Core.Bool.{true, false}
@@ -11,15 +12,10 @@ use Rattle.refusal.specs.declared.Refusal.TheVariants.{Count, Strategy, OutputSh
 use Rattle.stats.specs.declared.CorrectionStats.{CorrectionStats}
 use Rattle.stats.specs.Counts.{zeroed, plus, full}
 use Rattle.strategy.specs.declared.Strategies.{Strategies}
-use Rattle.strategy.specs.declared.Numbered.{Numbered}
-use Rattle.strategy.specs.declared.Numbered.TheVariants as Numbers
 use Rattle.strategy.specs.Number.{numbered_of}
 use Rattle.strategy.proofs.NumberLaws.{full_refused}
 use Rattle.group_frames.specs.Frame.{begin_of, frames_of}
-use Rattle.group_frames.specs.declared.Framing.TheVariants.{Whole}
 use Rattle.group_mates.specs.Register.{pairs_of}
-use Rattle.group_verdicts.specs.declared.Verdict.{Verdict}
-use Rattle.group_verdicts.specs.declared.Verdict.TheVariants as Verdicts
 use Rattle.group_verdicts.specs.Judged.{judge_by}
 use Rattle.group_verdicts.specs.Indexed.{indexed_at}
 use Rattle.group_applying.specs.declared.Applied.{Applied}
@@ -30,8 +26,6 @@ use Rattle.group.specs.declared.GroupAnswer.{GroupAnswer}
 use Rattle.group.specs.declared.GroupAnswer.TheVariants as Groups
 use Rattle.group.specs.Group as Group
 use Rattle.group.proofs.GroupLaws.{no_strategy, goes_on, refused_pair, done}
-use Rattle.filed_ending.specs.declared.Ending.{Ending}
-use Rattle.filed_ending.specs.declared.Ending.TheVariants.{At, Missing, Broken}
 use Rattle.filed_ending.specs.Ending.{ending_of}
 use Rattle.filed_trailer.specs.declared.Trailer.{Trailer}
 use Rattle.filed_trailer.specs.Trailer.{trailer_at, wrong}
@@ -55,39 +49,39 @@ module _ (s out : List ℕ) (g : CorrectionStats) where
   unfolding filed_of
   too_full t o h = refusal out g Count o h ∙ rw t refl
 
-  module _ (room : full g ≡ false) (e : Ending) (is : e ≡ ending_of s) where
+  module _ (room : full g ≡ false) (e : Result ℕ Refusal) (is : e ≡ ending_of s) where
     opened : on_ending s out g e ≡ filed_of s out g
     unfolding filed_of
     opened = rw room (ap (on_ending s out g) is)
 
-    pub broken : (r : Refusal) → e ≡ Broken r → (o : Filed) → Refuses r g o → ended o.answer out o.stats ≡ filed_of s out g
+    pub broken : (r : Refusal) → e ≡ Err r → (o : Filed) → Refuses r g o → ended o.answer out o.stats ≡ filed_of s out g
     broken r f o h = refusal out g r o h ∙ ap (on_ending s out g) (sym f) ∙ opened
 
-    pub missing : e ≡ Missing → (o : Filed) → Refuses TrailerMissing g o → ended o.answer out o.stats ≡ filed_of s out g
+    pub missing : e ≡ Err TrailerMissing → (o : Filed) → Refuses TrailerMissing g o → ended o.answer out o.stats ≡ filed_of s out g
     missing f o h = refusal out g TrailerMissing o h ∙ ap (on_ending s out g) (sym f) ∙ opened
 
-    pub at : (n : ℕ) → e ≡ At n → (x : Ended) → x ≡ on_ending s out g (At n) → x ≡ filed_of s out g
+    pub at : (n : ℕ) → e ≡ Ok n → (x : Ended) → x ≡ on_ending s out g (Ok n) → x ≡ filed_of s out g
     at n f x h = h ∙ ap (on_ending s out g) (sym f) ∙ opened
 
 -- ---- the trailer behind n frames, which end at p
 module _ (s out : List ℕ) (g : CorrectionStats) (n p : ℕ) (ep : p ≡ begin_of s n) where
-  pub not_fifty : (length s ≡ p + 50 → ⊥) → (o : Filed) → Refuses TrailerMissing g o → ended o.answer out o.stats ≡ on_ending s out g (At n)
+  pub not_fifty : (length s ≡ p + 50 → ⊥) → (o : Filed) → Refuses TrailerMissing g o → ended o.answer out o.stats ≡ on_ending s out g (Ok n)
   not_fifty d o h = refusal out g TrailerMissing o h ∙ rw (ne_eqb (length s) (begin_of s n + 50) (λ z. d (omega arith))) refl
 
   module _ (size : length s ≡ p + 50) (t : Trailer) (et : t ≡ trailer_at s p) where
-    fifty : on_trailer s out g n p t ≡ on_ending s out g (At n)
+    fifty : on_trailer s out g n p t ≡ on_ending s out g (Ok n)
     fifty =
         rw (eq-eqb (length s) (begin_of s n + 50) (omega arith))
         (ap₂ (on_trailer s out g n) ep (et ∙ ap (trailer_at s) ep))
 
-    pub wrong_field : wrong t n p ≡ true → (o : Filed) → Refuses TrailerField g o → ended o.answer out o.stats ≡ on_ending s out g (At n)
+    pub wrong_field : wrong t n p ≡ true → (o : Filed) → Refuses TrailerField g o → ended o.answer out o.stats ≡ on_ending s out g (Ok n)
     wrong_field b o h = refusal out g TrailerField o h ∙ (rw b at fifty)
 
     module _ (right : wrong t n p ≡ false) where
-      pub known : t.state ≡ 1 → ended (AlreadyDone n t.growth) out g ≡ on_ending s out g (At n)
+      pub known : t.state ≡ 1 → ended (AlreadyDone n t.growth) out g ≡ on_ending s out g (Ok n)
       known e = rw (right, eq-eqb t.state 1 e) at fifty
 
-      pub raw : (t.state ≡ 1 → ⊥) → (x : Ended) → x ≡ on_raw s out g p t.strategies → x ≡ on_ending s out g (At n)
+      pub raw : (t.state ≡ 1 → ⊥) → (x : Ended) → x ≡ on_raw s out g p t.strategies → x ≡ on_ending s out g (Ok n)
       raw d x h = h ∙ (rw (right, ne_eqb t.state 1 d) at fifty)
 
 -- ---- the pairs of a raw group
@@ -102,23 +96,23 @@ module _ (s out : List ℕ) (g : CorrectionStats) (p b : ℕ) where
   group_refused : (r : Refusal) → Group.ended (Groups.Refused r) (take p s) zeroed ≡ group_in s p b → (o : Filed) → Refuses r g o → ended o.answer out o.stats ≡ on_raw s out g p b
   group_refused r e o h = refusal out g r o h ∙ by_group (Group.ended (Groups.Refused r) (take p s) zeroed) e
 
-  module _ (a : Numbered) (ea : a ≡ numbered_of (b / 3) (b % 3) 93) where
-    pub no_numbers : (r : Refusal) → a ≡ Numbers.Refused r → (o : Filed) → Refuses Strategy g o → ended o.answer out o.stats ≡ on_raw s out g p b
+  module _ (a : Result Strategies Refusal) (ea : a ≡ numbered_of (b / 3) (b % 3) 93) where
+    pub no_numbers : (r : Refusal) → a ≡ Err r → (o : Filed) → Refuses Strategy g o → ended o.answer out o.stats ≡ on_raw s out g p b
     no_numbers r e o h =
         let z : r ≡ Strategy = full_refused (b / 3) (b % 3) r (sym ea ∙ e) in
         group_refused r (no_strategy (b / 3) (b % 3) 93 (take p s) zeroed a ea r e (grouped (Groups.Refused r) zeroed) (refl, refl)) o (rw z h)
 
-    module _ (w : Strategies) (e : a ≡ Numbers.Are w) (n : ℕ) (whole : frames_of (take p s) ≡ Whole n)
-        (v : Verdict) (ev : v ≡ judge_by (indexed_at (take p s)) (pairs_of (take p s) n)) where
+    module _ (w : Strategies) (e : a ≡ Ok w) (n : ℕ) (whole : frames_of (take p s) ≡ Ok n)
+        (v : Result (Unit {0}) Refusal) (ev : v ≡ judge_by (indexed_at (take p s)) (pairs_of (take p s) n)) where
       goes : (u : List ℕ) (o : Grouped) → Group.ended o.answer u o.stats ≡ Group.framed_of w (take p s) zeroed → Group.ended o.answer u o.stats ≡ group_in s p b
       goes u o h = goes_on (b / 3) (b % 3) 93 (take p s) zeroed a ea w e refl u o h
 
-      pub pair_refused : (r : Refusal) → v ≡ Verdicts.Refused r → (o : Filed) → Refuses r g o → ended o.answer out o.stats ≡ on_raw s out g p b
+      pub pair_refused : (r : Refusal) → v ≡ Err r → (o : Filed) → Refuses r g o → ended o.answer out o.stats ≡ on_raw s out g p b
       pair_refused r d o h =
           let x = grouped (Groups.Refused r) zeroed in
           group_refused r (goes (take p s) x (refused_pair w (take p s) zeroed (frames_of (take p s)) refl n whole v ev r d x (refl, refl))) o h
 
-      module _ (passed : v ≡ Verdicts.Passed) where
+      module _ (passed : v ≡ Ok tt) where
         group_done : (r : Applied) → AppliedTo w (take p s) (pairs_of (take p s) n) zeroed (corrected w (take p s) n) r
             → Group.ended (Groups.Done n r.pairs r.overlapping) (corrected w (take p s) n) r.stats ≡ group_in s p b
         group_done r to =

@@ -1,4 +1,6 @@
 -- The frames and then the trailer in the output: together the corrected filed group, and behind it what stood there.
+use Rattle.std.specs.Prelude.{Result, Ok}
+use Rattle.refusal.specs.declared.Refusal.{Refusal}
 use Prim.Native.Nat.{ℕ, ◌+◌, ◌-◌, ◌≤◌}
 use mathlib.Core.Path.{◌≡◌, sym, ◌∙◌, ap, ap₂, subst}
 use mathlib.Core.Bool.{false}
@@ -12,7 +14,6 @@ use Rattle.stats.specs.Room.{Adds}
 use Rattle.stats.proofs.CountLaws.{full_room, room_adds}
 use Rattle.strategy.specs.declared.Strategies.{Strategies}
 use Rattle.group_frames.specs.Part.{part, splice}
-use Rattle.group_frames.specs.declared.Framing.TheVariants.{Whole}
 use Rattle.group_frames.specs.Frame.{begin_of, frames_of}
 use Rattle.group_frames.specs.Table.{FrameTable}
 use Rattle.group_mates.specs.Register.{pairs_of}
@@ -21,8 +22,6 @@ use Rattle.group_applying.specs.Applied.{grown}
 use Rattle.filed_writing.specs.Written.{corrected, WrittenTo}
 use Rattle.filed_writing.proofs.RecordLaws.{corrected_size}
 use Rattle.filed_writing.proofs.GrowthLaws.{all_most}
-use Rattle.filed_ending.specs.declared.Ending.{Ending}
-use Rattle.filed_ending.specs.declared.Ending.TheVariants.{At}
 use Rattle.filed_ending.specs.Found.{FramesEnd, Found}
 use Rattle.filed_trailer.specs.Trailer.{stamped}
 use Rattle.filed.specs.Final.{Final, FiledTo}
@@ -35,7 +34,7 @@ front_part s p = let z : p - 0 ≡ p = omega arith in ap (λ (k : ℕ). take k s
 pub table_end : (s begins : List ℕ) (n : ℕ) → FramesEnd s begins n → get_or begins n 0 ≡ begin_of s n
 table_end s begins n e = e.placed.places n (omega arith) ∙ e.begin
 
-pub found_at : (s begins : List ℕ) (x : Ending) (n : ℕ) → x ≡ At n → Found s begins x → FramesEnd s begins n
+pub found_at : (s begins : List ℕ) (x : Result ℕ Refusal) (n : ℕ) → x ≡ Ok n → Found s begins x → FramesEnd s begins n
 found_at s begins x n e f = subst (Found s begins) e f
 
 -- what the table of the frames says where they end
@@ -46,7 +45,7 @@ module _ (s begins : List ℕ) (n p : ℕ) (e : FramesEnd s begins n) (ep : p �
   pub front_end : begin_of (part s 0 p) n ≡ p
   front_end = rw (front_part s p, ep) e.begin
 
-  pub front_whole : frames_of (take p s) ≡ Whole n
+  pub front_whole : frames_of (take p s) ≡ Ok n
   front_whole = rw ep e.whole
 
   front_length : length (take p s) ≡ p

@@ -1,5 +1,6 @@
 -- The whole call on a filed group: its answer, every byte of the output and the counts.
-use Rattle.std.specs.Prelude.{ℕ, ◌+◌, ◌/◌, ◌%◌, cond, List, ◌++◌, eqb, ltb, length, take, drop}
+use Rattle.refusal.specs.declared.Refusal.{Refusal}
+use Rattle.std.specs.Prelude.{ℕ, ◌+◌, ◌/◌, ◌%◌, cond, List, ◌++◌, eqb, ltb, length, take, drop, Result, Ok, Err}
 use Rattle.refusal.specs.declared.Refusal.TheVariants.{Count, OutputShort, TrailerMissing, TrailerField}
 use Rattle.stats.specs.declared.CorrectionStats.{CorrectionStats}
 use Rattle.stats.specs.Counts.{zeroed, plus, full}
@@ -7,8 +8,6 @@ use Rattle.group_frames.specs.Frame.{begin_of}
 use Rattle.group.specs.declared.GroupAnswer.{GroupAnswer}
 use Rattle.group.specs.declared.GroupAnswer.TheVariants as Groups
 use Rattle.group.specs.Group as Group
-use Rattle.filed_ending.specs.declared.Ending.{Ending}
-use Rattle.filed_ending.specs.declared.Ending.TheVariants.{At, Missing, Broken}
 use Rattle.filed_ending.specs.Ending.{ending_of}
 use Rattle.filed_trailer.specs.declared.Trailer.{Trailer}
 use Rattle.filed_trailer.specs.Trailer.{trailer_at, wrong, stamped}
@@ -49,10 +48,10 @@ on_trailer s out g n p t =
     (cond (eqb t.state 1) (ended (AlreadyDone n t.growth) out g) (on_raw s out g p t.strategies))
 
 -- the frames' refusals; 20 where no zero size ended them, or where not 50 bytes stand from it
-abbrev pub on_ending : List ℕ → List ℕ → CorrectionStats → Ending → Ended
-on_ending s out g (Broken r) = ended (Refused r) out g
-on_ending s out g Missing = ended (Refused TrailerMissing) out g
-on_ending s out g (At n) =
+abbrev pub on_ending : List ℕ → List ℕ → CorrectionStats → Result ℕ Refusal → Ended
+on_ending s out g (Err r) = ended (Refused r) out g
+on_ending s out g (Err TrailerMissing) = ended (Refused TrailerMissing) out g
+on_ending s out g (Ok n) =
     cond (eqb (length s) (begin_of s n + 50)) (on_trailer s out g n (begin_of s n) (trailer_at s (begin_of s n))) (ended (Refused TrailerMissing) out g)
 
 -- 9, then the rest

@@ -1,9 +1,8 @@
 -- What a proof keeps of a filed group that is being written.
-use Rattle.std.specs.Prelude.{ℕ, ◌≡◌, List, ◌++◌, length, take, drop}
+use Rattle.std.specs.Prelude.{ℕ, ◌≡◌, List, ◌++◌, length, take, drop, Ok}
 use Rattle.stats.specs.declared.CorrectionStats.{CorrectionStats}
 use Rattle.stats.specs.Counts.{zeroed}
 use Rattle.strategy.specs.declared.Strategies.{Strategies}
-use Rattle.group_frames.specs.declared.Framing.TheVariants.{Whole}
 use Rattle.group_frames.specs.Frame.{frames_of}
 use Rattle.group_mates.specs.Register.{pairs_of}
 use Rattle.group_applying.specs.declared.Applied.{Applied}
@@ -16,7 +15,7 @@ use Rattle.filed.specs.Filed.{corrected_with}
 pub record Final (s out : List ℕ) (p : ℕ) (g : CorrectionStats) : Type 0 where
   pub strategies : Strategies
   pub records : ℕ
-  pub whole : frames_of s ≡ Whole records
+  pub whole : frames_of s ≡ Ok records
   pub front : Front (corrected strategies s records) out p
   pub growth : g ≡ grown strategies s (pairs_of s records) zeroed
 

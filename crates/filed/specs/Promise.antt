@@ -1,10 +1,9 @@
 -- What a reader is promised of filed groups: nothing is written unless one is corrected, a torn output is refused, and a whole one is known.
-use Rattle.std.specs.Prelude.{ℕ, ◌+◌, ◌<◌, false, List, ◌≡◌, length, take}
+use Rattle.std.specs.Prelude.{ℕ, ◌+◌, ◌<◌, false, List, ◌≡◌, length, take, Ok}
 use Rattle.refusal.specs.declared.Refusal.{Refusal}
 use Rattle.stats.specs.declared.CorrectionStats.{CorrectionStats}
 use Rattle.stats.specs.Counts.{plus, full}
 use Rattle.group_frames.specs.Frame.{begin_of}
-use Rattle.filed_ending.specs.declared.Ending.TheVariants.{At}
 use Rattle.filed_ending.specs.Ending.{ending_of}
 use Rattle.filed_trailer.specs.Trailer.{trailer_at, wrong}
 use Rattle.filed.specs.declared.FiledAnswer.{FiledAnswer}
@@ -30,7 +29,7 @@ pub record Known (z : List ℕ) (n : ℕ) (h : CorrectionStats) : Type 0 where
 
 -- n frames and a trailer of 50 bytes are all of s, no field of the trailer is wrong, and it says "corrected" with the growth h
 pub record MarkedDone (s : List ℕ) (n : ℕ) (h : CorrectionStats) : Type 0 where
-  pub ends : ending_of s ≡ At n
+  pub ends : ending_of s ≡ Ok n
   pub size : length s ≡ begin_of s n + 50
   pub right : wrong (trailer_at s (begin_of s n)) n (begin_of s n) ≡ false
   pub state : (trailer_at s (begin_of s n)).state ≡ 1
@@ -38,7 +37,7 @@ pub record MarkedDone (s : List ℕ) (n : ℕ) (h : CorrectionStats) : Type 0 wh
 
 -- the trailer behind the n frames of s says "raw", whatever else it says
 pub record MarkedRaw (s : List ℕ) (n : ℕ) : Type 0 where
-  pub ends : ending_of s ≡ At n
+  pub ends : ending_of s ≡ Ok n
   pub state : (trailer_at s (begin_of s n)).state ≡ 0
 
 -- z is what a call wrote for n records with the growth h: no proper front of it passes, and all of it is known

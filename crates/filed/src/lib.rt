@@ -17,13 +17,11 @@ ghost use Rattle.filed_trailer.specs.Trailer.{stamped};
 ghost use Rattle.filed.specs.Filed.{ended, on_raw, on_ending, filed_of};
 ghost use Rattle.filed.specs.Final.{Final, FiledTo};
 
-use filed_ending::Ending;
 use filed_trailer::Trailer;
 use group_applying::Applied;
-use group_verdicts::Verdict;
 use refusal::Refusal;
 use stats::CorrectionStats;
-use strategy::{Numbered, Strategies};
+use strategy::Strategies;
 
 // What the call answers: a raw group was corrected, with so many records, pairs and overlapping pairs and
 // this growth of the counts; it was corrected before, with the counts of its trailer; or why it is refused.
@@ -204,15 +202,15 @@ fn correct_raw(
         (strategies % 3) as u32,
         strategy::FULL_CAP as u32,
     );
-    let Numbered::Are(w) = numbered else {
+    let Ok(w) = numbered else {
         return refused(Refusal::Strategy, stats);
     };
     let mut mate = [0usize; 256];
     group_mates::find(&filed[0..p], begins, n, &mut mate);
     let v = group_verdicts::judge_all(&filed[0..p], begins, n, &mate);
     match v {
-        Verdict::Refused(r) => refused(r, stats),
-        Verdict::Passed => {
+        Err(r) => refused(r, stats),
+        Ok(()) => {
             if out.len() < filed.len() {
                 return refused(Refusal::OutputShort, stats);
             }
@@ -231,7 +229,7 @@ fn correct_ended(
     stats: CorrectionStats,
 ) -> Filed
     requires { FramesEnd filed.now begins.now n × (full stats ≡ false) }
-    ensures { ended result.answer out.new result.stats ≡ on_ending filed.now out.old stats (Ending.At n) }
+    ensures { ended result.answer out.new result.stats ≡ on_ending filed.now out.old stats (Ok n) }
 {
     let p = begins[n];
     if filed.len() - p != filed_trailer::SIZE {
@@ -262,8 +260,7 @@ pub fn correct(filed: &[u8], out: &mut [u8], stats: CorrectionStats) -> Filed
     let mut begins = [1usize; 257];
     let e = filed_ending::cut(filed, &mut begins);
     match e {
-        Ending::Broken(r) => refused(r, stats),
-        Ending::Missing => refused(Refusal::TrailerMissing, stats),
-        Ending::At(n) => correct_ended(filed, &begins, n, out, stats),
+        Err(r) => refused(r, stats),
+        Ok(n) => correct_ended(filed, &begins, n, out, stats),
     }
 }

@@ -1,4 +1,7 @@
 -- What an end of the frames is, said without the loop: that it is found, that it is the only one, and what it depends on. Assumes nothing.
+use Rattle.std.specs.Prelude.{Result, Ok, Err}
+use Rattle.refusal.specs.declared.Refusal.{Refusal}
+use Rattle.refusal.specs.declared.Refusal.TheVariants.{TrailerMissing}
 use Prim.Native.Nat.{ℕ, zero, suc, ◌+◌, ◌<◌, ◌≤◌}
 use mathlib.Core.Path.{◌≡◌, refl, sym, ◌∙◌, ap}
 use mathlib.Core.Bool.{Bool, true, false, cond}
@@ -13,13 +16,9 @@ use Rattle.refusal.specs.declared.Refusal.TheVariants as Why
 use Rattle.fields.specs.Number.{unsigned}
 use Rattle.fields.proofs.Arith.{lt_or_le}
 use Rattle.fields.proofs.NumberLaws.{le_behind}
-use Rattle.group_frames.specs.declared.Frame.{Frame}
-use Rattle.group_frames.specs.declared.Frame.TheVariants.{To, Refused}
-use Rattle.group_frames.specs.declared.Framing.TheVariants.{Whole}
 use Rattle.group_frames.specs.Part.{part}
 use Rattle.group_frames.specs.Frame.{begin_of, start_of, end_of, record_of, frame_of, frames_of}
 use Rattle.group_frames.specs.Table.{FrameTable}
-use Rattle.filed_ending.specs.declared.Ending.TheVariants.{At, Missing, Broken}
 use Rattle.filed_ending.specs.Ending.{zero_at, on_frame, ending_from, ending_of}
 use Rattle.filed_ending.specs.Found.{FramesEnd}
 use Rattle.group_frames.proofs.CleanLaws.{Clean, Run, run_none, run_more, to_size, clean_sound, begin_alike, clean_alike, number_front, size_front, record_front, begin_front, clean_front, whole_clean, clean_whole}
@@ -36,25 +35,25 @@ zero_left s p h = go (ltb (length s) (p + 4)) refl h
     go false e g = (ltb-false (length s) (p + 4) e, eqb-true (unsigned 4 s p) 0 g)
 
 -- none where a frame without a fault stands
-pub zero_not : (s : List ℕ) (p k e : ℕ) → frame_of s p k ≡ To e → zero_at s p ≡ false
+pub zero_not : (s : List ℕ) (p k e : ℕ) → frame_of s p k ≡ Ok e → zero_at s p ≡ false
 zero_not s p k e h =
     let d = to_size s p k e h in
     simp (le-ltb (length s) (p + 4) (omega arith), ne_eqb (unsigned 4 s p) 0 (λ z. omega arith))
 
 -- ---- what is found at frame k
 module _ (s : List ℕ) (k : ℕ) where
-  pub end_missing : (m : ℕ) → length s ≤ begin_of s k → ending_from s m k ≡ Missing
+  pub end_missing : (m : ℕ) → length s ≤ begin_of s k → ending_from s m k ≡ Err TrailerMissing
   unfolding ending_from
   end_missing zero h = simp (le-ltb (begin_of s k) (length s) h)
   end_missing (suc m) h = simp (le-ltb (begin_of s k) (length s) h)
 
-  pub end_zero : (m : ℕ) → zero_at s (begin_of s k) ≡ true → ending_from s m k ≡ At k
+  pub end_zero : (m : ℕ) → zero_at s (begin_of s k) ≡ true → ending_from s m k ≡ Ok k
   unfolding ending_from
   end_zero zero h = simp (lt-ltb (begin_of s k) (length s) (omega (arith, zero_left s (begin_of s k) h)), h)
   end_zero (suc m) h = simp (lt-ltb (begin_of s k) (length s) (omega (arith, zero_left s (begin_of s k) h)), h)
 
   module _ (more : begin_of s k < length s) (size : zero_at s (begin_of s k) ≡ false) where
-    pub end_many : ending_from s 0 k ≡ Broken Why.TooManyRecords
+    pub end_many : ending_from s 0 k ≡ Err Why.TooManyRecords
     unfolding ending_from
     end_many = simp (lt-ltb (begin_of s k) (length s) more, size)
 
@@ -65,46 +64,46 @@ module _ (s : List ℕ) (k : ℕ) where
 -- ---- what an end is, said without a loop
 pub record Ends (s : List ℕ) (n : ℕ) : Type 0 where
   pub few : n ≤ 256
-  pub frames : (k : ℕ) → k < n → frame_of s (begin_of s k) k ≡ To (begin_of s (suc k))
+  pub frames : (k : ℕ) → k < n → frame_of s (begin_of s k) k ≡ Ok (begin_of s (suc k))
   pub zero : zero_at s (begin_of s n) ≡ true
 
-ends_from : (s : List ℕ) (m k n : ℕ) → ending_from s m k ≡ At n → Run s m k n × (zero_at s (begin_of s n) ≡ true)
+ends_from : (s : List ℕ) (m k n : ℕ) → ending_from s m k ≡ Ok n → Run s m k n × (zero_at s (begin_of s n) ≡ true)
 unfolding ending_from
 ends_from s zero k n h = go (ltb (begin_of s k) (length s)) (zero_at s (begin_of s k)) refl h
   where
-    go : (t u : Bool) → zero_at s (begin_of s k) ≡ u → cond t (cond u (At k) (Broken Why.TooManyRecords)) Missing ≡ At n → Run s zero k n × (zero_at s (begin_of s n) ≡ true)
+    go : (t u : Bool) → zero_at s (begin_of s k) ≡ u → cond t (cond u (Ok k) (Err Why.TooManyRecords)) (Err TrailerMissing) ≡ Ok n → Run s zero k n × (zero_at s (begin_of s n) ≡ true)
     go true true e g = let q : k ≡ n = cc in (run_none s zero k n q, rw q at e)
     go true false e g = let z : ◌≡◌ {A = ℕ} 0 1 = cc in absurd (omega arith)
     go false u e g = let z : ◌≡◌ {A = ℕ} 0 1 = cc in absurd (omega arith)
 ends_from s (suc m) k n h = go (ends_from s m (suc k) n) (ltb (begin_of s k) (length s)) (zero_at s (begin_of s k)) (frame_of s (begin_of s k) k) refl refl h
   where
-    go : (ending_from s m (suc k) ≡ At n → Run s m (suc k) n × (zero_at s (begin_of s n) ≡ true))
-        → (t u : Bool) (f : Frame) → zero_at s (begin_of s k) ≡ u → frame_of s (begin_of s k) k ≡ f
-        → cond t (cond u (At k) (on_frame f (ending_from s m (suc k)))) Missing ≡ At n → Run s (suc m) k n × (zero_at s (begin_of s n) ≡ true)
+    go : (ending_from s m (suc k) ≡ Ok n → Run s m (suc k) n × (zero_at s (begin_of s n) ≡ true))
+        → (t u : Bool) (f : Result ℕ Refusal) → zero_at s (begin_of s k) ≡ u → frame_of s (begin_of s k) k ≡ f
+        → cond t (cond u (Ok k) (on_frame f (ending_from s m (suc k)))) (Err TrailerMissing) ≡ Ok n → Run s (suc m) k n × (zero_at s (begin_of s n) ≡ true)
     go again true true f e d g = let q : k ≡ n = cc in (run_none s (suc m) k n q, rw q at e)
-    go again true false (To x) e d g = (run_more s m k n x d (again g).0, (again g).1)
-    go again true false (Refused r) e d g = let z : ◌≡◌ {A = ℕ} 0 1 = cc in absurd (omega arith)
+    go again true false (Ok x) e d g = (run_more s m k n x d (again g).0, (again g).1)
+    go again true false (Err r) e d g = let z : ◌≡◌ {A = ℕ} 0 1 = cc in absurd (omega arith)
     go again false u f e d g = let z : ◌≡◌ {A = ℕ} 0 1 = cc in absurd (omega arith)
 
 -- what is found is one
-pub ends_of : (s : List ℕ) (n : ℕ) → ending_of s ≡ At n → Ends s n
+pub ends_of : (s : List ℕ) (n : ℕ) → ending_of s ≡ Ok n → Ends s n
 ends_of s n h =
     let w = ends_from s 256 0 n h in
     record { few = omega (arith, w.0.to); frames = λ k l. w.0.frames k (omega arith) l; zero = w.1 }
 
-ending_more : (s : List ℕ) (n : ℕ) → Ends s n → (m k : ℕ) → k ≤ n → n ≤ k + m → ending_from s m k ≡ At n
+ending_more : (s : List ℕ) (n : ℕ) → Ends s n → (m k : ℕ) → k ≤ n → n ≤ k + m → ending_from s m k ≡ Ok n
 ending_more s n e zero k h l = let q : n ≡ k = omega arith in rw q (end_zero s k 0 (rw q at e.zero))
 ending_more s n e (suc m) k h l =
     ⊎_elim
     (λ (b : k < n). let f = e.frames k b in
     let d = to_size s (begin_of s k) k (begin_of s (suc k)) f in
     end_frame s k (omega arith) (zero_not s (begin_of s k) k (begin_of s (suc k)) f) m
-    ∙ ap (λ (z : Frame). on_frame z (ending_from s m (suc k))) f ∙ ending_more s n e m (suc k) b (omega arith))
+    ∙ ap (λ (z : Result ℕ Refusal). on_frame z (ending_from s m (suc k))) f ∙ ending_more s n e m (suc k) b (omega arith))
     (λ (b : n ≤ k). let q : n ≡ k = omega arith in rw q (end_zero s k (suc m) (rw q at e.zero)))
     (lt_or_le k n)
 
 -- and is found
-pub ending_at : (s : List ℕ) (n : ℕ) → Ends s n → ending_of s ≡ At n
+pub ending_at : (s : List ℕ) (n : ℕ) → Ends s n → ending_of s ≡ Ok n
 ending_at s n e = ending_more s n e 256 0 (omega arith) (omega (arith, e.few))
 
 -- its four zero bytes lie in s
@@ -113,7 +112,7 @@ ends_left s n e = (zero_left s (begin_of s n) e.zero).0
 
 -- there is one at most
 pub one_end : (s : List ℕ) (n m : ℕ) → Ends s n → Ends s m → n ≡ m
-one_end s n m e f = let z : At n ≡ At m = sym (ending_at s n e) ∙ ending_at s m f in cc
+one_end s n m e f = let z : Ok n ≡ Ok m = sym (ending_at s n e) ∙ ending_at s m f in cc
 
 -- ---- a list u whose sizes and headers are those of s: it ends alike
 module _ (s u : List ℕ) (n : ℕ) (e : Ends s n) (room : begin_of s n + 4 ≤ length u) where
@@ -143,7 +142,7 @@ module _ (s u : List ℕ) (n : ℕ) (e : Ends s n) (room : begin_of s n + 4 ≤ 
       (number_front s u 4 (begin_of s n + 4) (begin_of s n) (omega arith) t)
 
 -- ---- frames that are whole, with four zero bytes behind them, end there
-pub whole_ends : (s t : List ℕ) (n : ℕ) → frames_of s ≡ Whole n → 4 ≤ length t → unsigned 4 t 0 ≡ 0 → Ends (s ++ t) n × (begin_of (s ++ t) n ≡ length s)
+pub whole_ends : (s t : List ℕ) (n : ℕ) → frames_of s ≡ Ok n → 4 ≤ length t → unsigned 4 t 0 ≡ 0 → Ends (s ++ t) n × (begin_of (s ++ t) n ≡ length s)
 whole_ends s t n h l z =
     let w = whole_clean s n h in
     let o : length (s ++ t) ≡ length s + length t = length-append s t in
@@ -174,7 +173,7 @@ module _ (s : List ℕ) (n : ℕ) (e : Ends s n) where
   before_clean = clean_front s (before s n) n e.frames (omega (arith, before_size)) (take-take (begin_of s n) (begin_of s n) s (omega arith))
 
   -- they are whole
-  pub before_whole : frames_of (before s n) ≡ Whole n
+  pub before_whole : frames_of (before s n) ≡ Ok n
   before_whole = clean_whole (before s n) n before_clean (before_begin n (omega arith) ∙ sym before_size) e.few
 
   -- and the table of s up to there is theirs

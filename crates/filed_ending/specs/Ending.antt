@@ -1,31 +1,28 @@
 -- Frames end to end, and then four zero bytes where a size would stand.
-use Rattle.std.specs.Prelude.{ℕ, zero, suc, ◌+◌, Bool, false, cond, List, ltb, eqb, length}
-use Rattle.refusal.specs.declared.Refusal.TheVariants.{TooManyRecords}
+use Rattle.refusal.specs.declared.Refusal.{Refusal}
+use Rattle.std.specs.Prelude.{ℕ, zero, suc, ◌+◌, Bool, false, cond, List, ltb, eqb, length, Result, Ok, Err}
+use Rattle.refusal.specs.declared.Refusal.TheVariants.{TooManyRecords, TrailerMissing}
 use Rattle.fields.specs.Number.{unsigned}
-use Rattle.group_frames.specs.declared.Frame.{Frame}
-use Rattle.group_frames.specs.declared.Frame.TheVariants.{To, Refused}
 use Rattle.group_frames.specs.Frame.{begin_of, frame_of}
-use Rattle.filed_ending.specs.declared.Ending.{Ending}
-use Rattle.filed_ending.specs.declared.Ending.TheVariants.{At, Missing, Broken}
 
 -- four zero bytes stand at p
 abbrev pub zero_at : List ℕ → ℕ → Bool
 zero_at s p = cond (ltb (length s) (p + 4)) false (eqb (unsigned 4 s p) 0)
 
 -- with bytes left for frame k: a zero size ends the frames, before all else
-abbrev pub on_left : List ℕ → ℕ → Ending → Ending
-on_left s k rest = cond (ltb (begin_of s k) (length s)) (cond (zero_at s (begin_of s k)) (At k) rest) Missing
+abbrev pub on_left : List ℕ → ℕ → Result ℕ Refusal → Result ℕ Refusal
+on_left s k rest = cond (ltb (begin_of s k) (length s)) (cond (zero_at s (begin_of s k)) (Ok k) rest) (Err TrailerMissing)
 
 -- what goes on behind a frame without a fault
-abbrev pub on_frame : Frame → Ending → Ending
-on_frame (To end) rest = rest
-on_frame (Refused r) rest = Broken r
+abbrev pub on_frame : Result ℕ Refusal → Result ℕ Refusal → Result ℕ Refusal
+on_frame (Ok end) rest = rest
+on_frame (Err r) rest = Err r
 
 -- how the frames end from the k-th on, where m more may come; 12: bytes left after the last of them
-unfoldable pub ending_from : List ℕ → ℕ → ℕ → Ending
-ending_from s zero k = on_left s k (Broken TooManyRecords)
+unfoldable pub ending_from : List ℕ → ℕ → ℕ → Result ℕ Refusal
+ending_from s zero k = on_left s k (Err TooManyRecords)
 ending_from s (suc m) k = on_left s k (on_frame (frame_of s (begin_of s k) k) (ending_from s m (suc k)))
 
 -- how the frames of a filed group end
-abbrev pub ending_of : List ℕ → Ending
+abbrev pub ending_of : List ℕ → Result ℕ Refusal
 ending_of s = ending_from s 256 0

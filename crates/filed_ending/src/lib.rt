@@ -5,17 +5,7 @@ ghost use Rattle.std.specs.Prelude.{◌≡◌, ◌≤◌, length};
 ghost use Rattle.filed_ending.specs.Ending.{zero_at, ending_of};
 ghost use Rattle.filed_ending.specs.Found.{Found};
 
-use group_frames::Frame;
 use refusal::Refusal;
-
-// How the frames end: at a zero size behind so many records, with the bytes and no zero size, or at
-// the refusal of the first faulty frame.
-#[derive(Clone, Copy)]
-pub enum Ending {
-    At(usize),
-    Missing,
-    Broken(Refusal),
-}
 
 // Whether four zero bytes stand at this byte.
 fn zero_at(s: &[u8], at: usize) -> bool
@@ -32,7 +22,7 @@ fn zero_at(s: &[u8], at: usize) -> bool
 
 // Finds where the frames end, each record checked. Where they do, `begins` holds afterwards where
 // each frame begins, and behind these where the zero size stands.
-pub fn cut(s: &[u8], begins: &mut [usize]) -> Ending
+pub fn cut(s: &[u8], begins: &mut [usize]) -> Result<usize, Refusal>
     requires { 257 ≤ length begins.old }
     ensures { (result ≡ ending_of s.now) × Found s.now begins.new result }
 {
@@ -42,22 +32,22 @@ pub fn cut(s: &[u8], begins: &mut [usize]) -> Ending
     while begin < s.len() {
         let zero = zero_at(s, begin);
         if zero {
-            return Ending::At(k);
+            return Ok(k);
         }
         if k == group_frames::MOST {
-            return Ending::Broken(Refusal::TooManyRecords);
+            return Err(Refusal::TooManyRecords);
         }
         let f = group_frames::frame_at(s, begin, k);
         match f {
-            Frame::Refused(r) => {
-                return Ending::Broken(r);
+            Err(r) => {
+                return Err(r);
             }
-            Frame::To(end) => {
+            Ok(end) => {
                 k += 1;
                 begin = end;
                 begins[k] = end;
             }
         }
     }
-    Ending::Missing
+    Err(Refusal::TrailerMissing)
 }

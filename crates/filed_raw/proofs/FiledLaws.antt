@@ -1,4 +1,5 @@
 -- The filing by its cases; and the trailer that is made fits its frames.
+use Rattle.std.specs.Prelude.{Result, Ok, Err}
 use Prim.Native.Nat.{ℕ, ◌+◌, ◌*◌, ◌<◌, ◌≤◌}
 use mathlib.Core.Path.{◌≡◌, refl, sym, ap, ◌∙◌}
 use mathlib.Core.Bool.{Bool, true, false, cond}
@@ -14,106 +15,100 @@ use Rattle.refusal.specs.declared.Refusal.TheVariants.{Strategy, OutputShort}
 use Rattle.fields.proofs.Arith.{lt_or_le}
 use Rattle.stats.specs.Counts.{zeroed}
 use Rattle.strategy.specs.declared.Strategies.{Strategies}
-use Rattle.strategy.specs.declared.Numbered.{Numbered}
-use Rattle.strategy.specs.declared.Numbered.TheVariants as Numbers
 use Rattle.strategy.specs.Number.{numbered_of}
 use Rattle.strategy.proofs.NumberLaws.{first_none, second_none, full_refused}
-use Rattle.group_frames.specs.declared.Framing.{Framing}
-use Rattle.group_frames.specs.declared.Framing.TheVariants.{Whole, Broken}
 use Rattle.group_frames.specs.Frame.{begin_of, frames_of}
 use Rattle.group_frames.specs.Table.{Filled}
-use Rattle.filed_ending.specs.declared.Ending.TheVariants.{At}
 use Rattle.filed_ending.specs.Ending.{ending_of}
 use Rattle.group_frames.proofs.CleanLaws.{whole_clean}
 use Rattle.filed_ending.proofs.EndLaws.{ending_at, whole_ends}
 use Rattle.filed_trailer.specs.declared.Trailer.{Trailer}
 use Rattle.filed_trailer.specs.Trailer.{trailer_at, wrong, raw_trailer, raw_in}
 use Rattle.filed_trailer.proofs.TrailerLaws.{trailer, trailer_at_lem, raw_size, raw_zero, raw_reads}
-use Rattle.filed_raw.specs.declared.Filing.TheVariants.{Made, Refused}
 use Rattle.filed_raw.specs.Filing.{Filed, filing, on_frames, on_numbered, file_of}
 
 -- ---- numbers that fit
-refused_are : (r : Refusal) (w : Strategies) → Numbers.Refused r ≡ Numbers.Are w → ⊥
+refused_are : (r : Refusal) (w : Strategies) → Err r ≡ Ok w → ⊥
 refused_are r w e = let z : ◌≡◌ {A = ℕ} 0 1 = cc in omega arith
 
 -- numbers that stand for strategies are at most 2
-pub are_small : (a d : ℕ) (numbered : Numbered) → numbered ≡ numbered_of a d 93 → (w : Strategies) → numbered ≡ Numbers.Are w → (a ≤ 2) × (d ≤ 2)
+pub are_small : (a d : ℕ) (numbered : Result Strategies Refusal) → numbered ≡ numbered_of a d 93 → (w : Strategies) → numbered ≡ Ok w → (a ≤ 2) × (d ≤ 2)
 are_small a d numbered is w e = (
   ⊎_elim (λ (l : 2 < a). absurd (refused_are Strategy w (first_none a d 93 l ∙ sym is ∙ e))) (λ (h : a ≤ 2). h) (lt_or_le 2 a),
   ⊎_elim (λ (l : 2 < d). absurd (refused_are Strategy w (second_none a d 93 l ∙ sym is ∙ e))) (λ (h : d ≤ 2). h) (lt_or_le 2 d),
 )
 
 -- a table that is filled is of at most 256 records
-pub filled_few : (s begins : List ℕ) (f : Framing) (n : ℕ) → Filled s begins f → f ≡ Whole n → n ≤ 256
+pub filled_few : (s begins : List ℕ) (f : Result ℕ Refusal) (n : ℕ) → Filled s begins f → f ≡ Ok n → n ≤ 256
 filled_few s begins f n h e = (rw e at h).few
 
 -- ---- the filing, by what the code finds
-module _ (a d : ℕ) (s out : List ℕ) (numbered : Numbered) (is : numbered ≡ numbered_of a d 93) where
-  pub numbers_wrong : (r : Refusal) → numbered ≡ Numbers.Refused r → filing (Refused Strategy) out ≡ file_of a d s out
+module _ (a d : ℕ) (s out : List ℕ) (numbered : Result Strategies Refusal) (is : numbered ≡ numbered_of a d 93) where
+  pub numbers_wrong : (r : Refusal) → numbered ≡ Err r → filing (Err Strategy) out ≡ file_of a d s out
   unfolding file_of
   numbers_wrong r e =
-      ap (λ (x : Refusal). filing (Refused x) out) (sym (full_refused a d r (sym is ∙ e))) ∙ ap (on_numbered (3 * a + d) s out) (sym e ∙ is)
+      ap (λ (x : Refusal). filing (Err x) out) (sym (full_refused a d r (sym is ∙ e))) ∙ ap (on_numbered (3 * a + d) s out) (sym e ∙ is)
 
-  module _ (w : Strategies) (are : numbered ≡ Numbers.Are w) (f : Framing) (cut : f ≡ frames_of s) where
+  module _ (w : Strategies) (are : numbered ≡ Ok w) (f : Result ℕ Refusal) (cut : f ≡ frames_of s) where
     as_framed : on_frames (3 * a + d) s out f ≡ file_of a d s out
     unfolding file_of
     as_framed = ap (on_frames (3 * a + d) s out) cut ∙ ap (on_numbered (3 * a + d) s out) (sym are ∙ is)
 
-    pub frames_wrong : (r : Refusal) → f ≡ Broken r → filing (Refused r) out ≡ file_of a d s out
+    pub frames_wrong : (r : Refusal) → f ≡ Err r → filing (Err r) out ≡ file_of a d s out
     frames_wrong r h = ap (on_frames (3 * a + d) s out) (sym h) ∙ as_framed
 
-    pub room_short : (n : ℕ) → f ≡ Whole n → length out < 50 → filing (Refused OutputShort) out ≡ file_of a d s out
+    pub room_short : (n : ℕ) → f ≡ Ok n → length out < 50 → filing (Err OutputShort) out ≡ file_of a d s out
     room_short n h l =
-        let z : on_frames (3 * a + d) s out (Whole n) ≡ filing (Refused OutputShort) out = rw (lt-ltb (length out) 50 l) in
+        let z : on_frames (3 * a + d) s out (Ok n) ≡ filing (Err OutputShort) out = rw (lt-ltb (length out) 50 l) in
         sym z ∙ ap (on_frames (3 * a + d) s out) (sym h) ∙ as_framed
 
-    pub trailer_made : (n : ℕ) → f ≡ Whole n → 50 ≤ length out → (t : List ℕ) → t ≡ raw_in out (3 * a + d) n (length s) → filing (Made n) t ≡ file_of a d s out
+    pub trailer_made : (n : ℕ) → f ≡ Ok n → 50 ≤ length out → (t : List ℕ) → t ≡ raw_in out (3 * a + d) n (length s) → filing (Ok n) t ≡ file_of a d s out
     trailer_made n h l t g =
-        let z : on_frames (3 * a + d) s out (Whole n) ≡ filing (Made n) (raw_in out (3 * a + d) n (length s)) = rw (le-ltb (length out) 50 l) in
-        ap (filing (Made n)) g ∙ sym z ∙ ap (on_frames (3 * a + d) s out) (sym h) ∙ as_framed
+        let z : on_frames (3 * a + d) s out (Ok n) ≡ filing (Ok n) (raw_in out (3 * a + d) n (length s)) = rw (le-ltb (length out) 50 l) in
+        ap (filing (Ok n)) g ∙ sym z ∙ ap (on_frames (3 * a + d) s out) (sym h) ∙ as_framed
 
 -- ---- what a trailer that was made says
 -- the frames are whole, and the trailer is the raw one, with what stood behind it
 pub record MadeOf (a d : ℕ) (s out : List ℕ) (n : ℕ) (t : List ℕ) : Type 0 where
   pub agreement : a ≤ 2
   pub disagreement : d ≤ 2
-  pub whole : frames_of s ≡ Whole n
+  pub whole : frames_of s ≡ Ok n
   pub bytes : t ≡ raw_in out (3 * a + d) n (length s)
 
-pub made_of : (a d : ℕ) (s out : List ℕ) (n : ℕ) (t : List ℕ) → file_of a d s out ≡ filing (Made n) t → MadeOf a d s out n t
+pub made_of : (a d : ℕ) (s out : List ℕ) (n : ℕ) (t : List ℕ) → file_of a d s out ≡ filing (Ok n) t → MadeOf a d s out n t
 unfolding file_of
 made_of a d s out n t e = numbers (numbered_of a d 93) refl e
   where
-    refused : (r : Refusal) → filing (Refused r) out ≡ filing (Made n) t → ⊥
+    refused : (r : Refusal) → filing (Err r) out ≡ filing (Ok n) t → ⊥
     refused r h =
-        let h' : Refused r ≡ Made n = ap (λ (x : Filed). x.answer) h in
+        let h' : Err r ≡ Ok n = ap (λ (x : Filed). x.answer) h in
         let z : ◌≡◌ {A = ℕ} 0 1 = cc in omega arith
 
-    room : (w : Strategies) → numbered_of a d 93 ≡ Numbers.Are w → (m : ℕ) → frames_of s ≡ Whole m → (short : Bool)
-        → cond short (filing (Refused OutputShort) out) (filing (Made m) (raw_in out (3 * a + d) m (length s))) ≡ filing (Made n) t → MadeOf a d s out n t
+    room : (w : Strategies) → numbered_of a d 93 ≡ Ok w → (m : ℕ) → frames_of s ≡ Ok m → (short : Bool)
+        → cond short (filing (Err OutputShort) out) (filing (Ok m) (raw_in out (3 * a + d) m (length s))) ≡ filing (Ok n) t → MadeOf a d s out n t
     room w f m g true h = absurd (refused OutputShort h)
     room w f m g false h =
-        let h' : Made m ≡ Made n = ap (λ (x : Filed). x.answer) h in
+        let h' : Ok m ≡ Ok n = ap (λ (x : Filed). x.answer) h in
         let z : m ≡ n = cc in
         let k = are_small a d (numbered_of a d 93) refl w f in
-        record { agreement = k.0; disagreement = k.1; whole = g ∙ ap Whole z; bytes = sym (ap (λ (x : Filed). x.room) h) ∙ ap (λ (x : ℕ). raw_in out (3 * a + d) x (length s)) z }
+        record { agreement = k.0; disagreement = k.1; whole = g ∙ ap Ok z; bytes = sym (ap (λ (x : Filed). x.room) h) ∙ ap (λ (x : ℕ). raw_in out (3 * a + d) x (length s)) z }
 
-    frames : (w : Strategies) → numbered_of a d 93 ≡ Numbers.Are w → (f : Framing) → frames_of s ≡ f → on_frames (3 * a + d) s out f ≡ filing (Made n) t → MadeOf a d s out n t
-    frames w f (Broken r) g h = absurd (refused r h)
-    frames w f (Whole m) g h = room w f m g (ltb (length out) 50) h
+    frames : (w : Strategies) → numbered_of a d 93 ≡ Ok w → (f : Result ℕ Refusal) → frames_of s ≡ f → on_frames (3 * a + d) s out f ≡ filing (Ok n) t → MadeOf a d s out n t
+    frames w f (Err r) g h = absurd (refused r h)
+    frames w f (Ok m) g h = room w f m g (ltb (length out) 50) h
 
-    numbers : (x : Numbered) → numbered_of a d 93 ≡ x → on_numbered (3 * a + d) s out x ≡ filing (Made n) t → MadeOf a d s out n t
-    numbers (Numbers.Refused r) f h = absurd (refused r h)
-    numbers (Numbers.Are w) f h = frames w f (frames_of s) refl h
+    numbers : (x : Result Strategies Refusal) → numbered_of a d 93 ≡ x → on_numbered (3 * a + d) s out x ≡ filing (Ok n) t → MadeOf a d s out n t
+    numbers (Err r) f h = absurd (refused r h)
+    numbers (Ok w) f h = frames w f (frames_of s) refl h
 
-module _ (a d : ℕ) (s out : List ℕ) (n : ℕ) (t : List ℕ) (made : file_of a d s out ≡ filing (Made n) t) where
+module _ (a d : ℕ) (s out : List ℕ) (n : ℕ) (t : List ℕ) (made : file_of a d s out ≡ filing (Ok n) t) where
   -- the first 50 bytes are the trailer
   pub made_trailer : take 50 t ≡ raw_trailer (3 * a + d) n (length s)
   made_trailer =
       ap (take 50) (made_of a d s out n t made).bytes ∙ take_at (raw_trailer (3 * a + d) n (length s)) (drop 50 out) 50 (raw_size (3 * a + d) n (length s))
 
   -- behind its frames it ends them
-  pub made_ends : (ending_of (s ++ take 50 t) ≡ At n) × (begin_of (s ++ take 50 t) n ≡ length s)
+  pub made_ends : (ending_of (s ++ take 50 t) ≡ Ok n) × (begin_of (s ++ take 50 t) n ≡ length s)
   made_ends =
       let e = whole_ends s (take 50 t) n (made_of a d s out n t made).whole
       (rw made_trailer (omega (arith, raw_size (3 * a + d) n (length s)))) (rw made_trailer (raw_zero (3 * a + d) n (length s))) in

@@ -1,5 +1,5 @@
 -- The record that is written next with its pair, and the pair that stands treated in the rooms.
-use Rattle.std.specs.Prelude.{ℕ, suc, ◌+◌, ◌-◌, ◌<◌, ◌≤◌, ◌≡◌, ◌⊎◌, List, length, take, drop}
+use Rattle.std.specs.Prelude.{ℕ, suc, ◌+◌, ◌-◌, ◌<◌, ◌≤◌, ◌≡◌, ◌⊎◌, List, length, take, drop, Ok}
 use Rattle.stats.specs.Counts.{plus}
 use Rattle.stats.specs.Room.{Adds}
 use Rattle.strategy.specs.declared.Strategies.{Strategies}
@@ -7,7 +7,6 @@ use Rattle.pair_judgement.specs.Ready.{Cleared}
 use Rattle.group_frames.specs.Part.{part, splice}
 use Rattle.group_frames.specs.Frame.{begin_of, end_of, record_of}
 use Rattle.group_mates.specs.Register.{mates_of, pairs_of}
-use Rattle.group_verdicts.specs.declared.Verdict.TheVariants.{Passed}
 use Rattle.group_verdicts.specs.Judged.{judge_by}
 use Rattle.group_verdicts.specs.Indexed.{indexed_at}
 use Rattle.group_applying.specs.declared.Applied.{Applied}
@@ -18,7 +17,7 @@ use Rattle.filed_writing.specs.Written.{Copied, corrected, Front, applied, added
 
 -- every pair of the n records of s was judged, and none is refused
 abbrev pub AllPassed : List ℕ → ℕ → Type 0
-AllPassed s n = judge_by (indexed_at s) (pairs_of s n) ≡ Passed
+AllPassed s n = judge_by (indexed_at s) (pairs_of s n) ≡ Ok tt
 
 -- t has the index of one of the n records of s, and one more than the indexes of the two of its pair, which passed; 0: it is in none
 pub record Turned (s : List ℕ) (n : ℕ) (t : Turn) : Type 0 where

@@ -1,4 +1,5 @@
 -- The first refused pair: the verdict over the listed pairs, in the reader's words and back.
+use Rattle.std.specs.Prelude.{Result, Ok, Err}
 use Prim.Native.Nat.{ℕ, zero, suc, ◌<◌, ◌≤◌}
 use mathlib.Core.Path.{◌≡◌, refl, sym, ◌∙◌, ap, ap₂, subst}
 use mathlib.Core.List.{List, [], ◌∷◌}
@@ -14,30 +15,28 @@ use Rattle.fields.specs.Among.{Among}
 use Rattle.fields.proofs.AmongLaws.{among_cons, among_none}
 use Rattle.group_mates.specs.Promise.{Mates}
 use Rattle.group_mates.proofs.MateLaws.{Made, mate_mates, mates_mate, mates_among}
-use Rattle.group_verdicts.specs.declared.Verdict.{Verdict}
-use Rattle.group_verdicts.specs.declared.Verdict.TheVariants as Verdicts
 use Rattle.group_verdicts.specs.Judged.{pair_at, judged_at, Named, answered, verdict_at, on_verdict, judge_by}
 use Rattle.group_verdicts.proofs.PlaceLaws.{named, judged_called, called_judged}
 use Rattle.group.specs.Promise.{FirstRefused}
 
 -- ---- all pairs pass
 -- a refusal isn't a pass
-no_refusal : (r : Refusal) → Verdicts.Refused r ≡ Verdicts.Passed → ⊥
+no_refusal : (r : Refusal) → Err r ≡ Ok tt → ⊥
 no_refusal r e = let z : ◌≡◌ {A = ℕ} 0 1 = cc in omega arith
 
 -- where all pass, each pair of the list does
-all_passed : (v : ℕ → ℕ → Verdict) (l : List (ℕ × ℕ)) → judge_by v l ≡ Verdicts.Passed → (i j : ℕ) → Among l i j → v i j ≡ Verdicts.Passed
+all_passed : (v : ℕ → ℕ → Result (Unit {0}) Refusal) (l : List (ℕ × ℕ)) → judge_by v l ≡ Ok tt → (i j : ℕ) → Among l i j → v i j ≡ Ok tt
 unfolding judge_by
 all_passed v [] e i j a = absurd (among_none i j a)
 all_passed v (d ∷ l) e i j a = go (all_passed v l) (v d.0 d.1) refl e
   where
-    go : (judge_by v l ≡ Verdicts.Passed → (i j : ℕ) → Among l i j → v i j ≡ Verdicts.Passed)
-        → (x : Verdict) → v d.0 d.1 ≡ x → on_verdict x (judge_by v l) ≡ Verdicts.Passed → v i j ≡ Verdicts.Passed
-    go up Verdicts.Passed f g = ⊎_elim (λ (z : (i ≡ d.0) × (j ≡ d.1)). ap₂ v z.0 z.1 ∙ f) (λ (z : Among l i j). up g i j z) (among_cons d l i j a)
-    go up (Verdicts.Refused r) f g = absurd (no_refusal r g)
+    go : (judge_by v l ≡ Ok tt → (i j : ℕ) → Among l i j → v i j ≡ Ok tt)
+        → (x : Result (Unit {0}) Refusal) → v d.0 d.1 ≡ x → on_verdict x (judge_by v l) ≡ Ok tt → v i j ≡ Ok tt
+    go up (Ok done) f g = ⊎_elim (λ (z : (i ≡ d.0) × (j ≡ d.1)). ap₂ v z.0 z.1 ∙ f) (λ (z : Among l i j). up g i j z) (among_cons d l i j a)
+    go up (Err r) f g = absurd (no_refusal r g)
 
 -- a pair that passes isn't refused
-not_refused : (a : Answer) (r : Refusal) → answered a ≡ Verdicts.Passed → a ≡ Answers.Refused r → ⊥
+not_refused : (a : Answer) (r : Refusal) → answered a ≡ Ok tt → a ≡ Answers.Refused r → ⊥
 not_refused a r e f = no_refusal r (sym (ap answered f) ∙ e)
 
 -- ---- which refusal: that of the first pair that is refused, of those that f makes for m records from a on
@@ -64,20 +63,20 @@ module _ (w : Strategies) (s : List ℕ) (f : ℕ → ℕ) (r : Refusal) where
   }
 
   -- the judgement stops at the first
-  stops : (m a : ℕ) → judge_by (verdict_at w s) (pairs_from f a m) ≡ Verdicts.Refused r → First w s f a m r
+  stops : (m a : ℕ) → judge_by (verdict_at w s) (pairs_from f a m) ≡ Err r → First w s f a m r
   unfolding judge_by pairs_from
   stops zero a e = absurd (no_refusal r (sym e))
   stops (suc m) a e = go (f a) refl (stops m (suc a)) e
     where
-      passes : (j : ℕ) (x : Answer) → f a ≡ suc j → judged_at w s a j ≡ x → answered x ≡ Verdicts.Passed
+      passes : (j : ℕ) (x : Answer) → f a ≡ suc j → judged_at w s a j ≡ x → answered x ≡ Ok tt
           → (j' : ℕ) (r' : Refusal) → f a ≡ suc j' → judged_at w s a j' ≡ Answers.Refused r' → ⊥
       passes j x d q ok j' r' d' t =
           let z : j ≡ j' = omega (arith, sym d ∙ d') in
           not_refused x r' ok (sym q ∙ ap (judged_at w s a) z ∙ t)
 
       at : (j : ℕ) (x : Answer) → f a ≡ suc j → judged_at w s a j ≡ x
-          → (judge_by (verdict_at w s) (pairs_from f (suc a) m) ≡ Verdicts.Refused r → First w s f (suc a) m r)
-          → on_verdict (answered x) (judge_by (verdict_at w s) (pairs_from f (suc a) m)) ≡ Verdicts.Refused r → First w s f a (suc m) r
+          → (judge_by (verdict_at w s) (pairs_from f (suc a) m) ≡ Err r → First w s f (suc a) m r)
+          → on_verdict (answered x) (judge_by (verdict_at w s) (pairs_from f (suc a) m)) ≡ Err r → First w s f a (suc m) r
       at j (Answers.Refused y) d q rest t =
           let b : y ≡ r = cc in
           record {
@@ -90,19 +89,19 @@ module _ (w : Strategies) (s : List ℕ) (f : ℕ → ℕ) (r : Refusal) where
       at j (Answers.NoOverlap x) d q rest t = wider a m (passes j (Answers.NoOverlap x) d q refl) (rest t)
       at j Answers.Overlap d q rest t = wider a m (passes j Answers.Overlap d q refl) (rest t)
 
-      go : (v : ℕ) → f a ≡ v → (judge_by (verdict_at w s) (pairs_from f (suc a) m) ≡ Verdicts.Refused r → First w s f (suc a) m r)
-          → judge_by (verdict_at w s) (mate_cons a v (pairs_from f (suc a) m)) ≡ Verdicts.Refused r → First w s f a (suc m) r
+      go : (v : ℕ) → f a ≡ v → (judge_by (verdict_at w s) (pairs_from f (suc a) m) ≡ Err r → First w s f (suc a) m r)
+          → judge_by (verdict_at w s) (mate_cons a v (pairs_from f (suc a) m)) ≡ Err r → First w s f a (suc m) r
       go zero d rest t = wider a m (λ j r' z q. omega (arith, sym d ∙ z)) (rest t)
       go (suc j) d rest t = at j (judged_at w s a j) d refl rest t
 
 -- ---- the pairs of the group s of n records
 module _ (w : Strategies) (s : List ℕ) (n : ℕ) where
   -- what the pairs in the order of the list are judged to be
-  abbrev pub judgement : Verdict
+  abbrev pub judgement : Result (Unit {0}) Refusal
   judgement = judge_by (verdict_at w s) (pairs_of s n)
 
   -- a refusal is that of the first refused pair
-  pub judged_first : (r : Refusal) → judgement ≡ Verdicts.Refused r → FirstRefused w s n r
+  pub judged_first : (r : Refusal) → judgement ≡ Err r → FirstRefused w s n r
   judged_first r e =
       let b = stops w s (mates_of s n) r n 0 e in
       record {
@@ -114,15 +113,15 @@ module _ (w : Strategies) (s : List ℕ) (n : ℕ) where
       }
 
   -- all pass exactly where no pair of mates is refused
-  pub judged_passed : judgement ≡ Verdicts.Passed → (i j : ℕ) (r : Refusal) → Mates s n i j → (pair_at w s i j).answer ≡ Answers.Refused r → ⊥
+  pub judged_passed : judgement ≡ Ok tt → (i j : ℕ) (r : Refusal) → Mates s n i j → (pair_at w s i j).answer ≡ Answers.Refused r → ⊥
   judged_passed e i j r m f = let q = called_judged w s i j r f in not_refused (judged_at w s i j) q.0 (all_passed (verdict_at w s) (pairs_of s n) e i j (mates_among s n i j m)) q.1
 
-  pub passed_judged : ((i j : ℕ) (r : Refusal) → Mates s n i j → (pair_at w s i j).answer ≡ Answers.Refused r → ⊥) → judgement ≡ Verdicts.Passed
+  pub passed_judged : ((i j : ℕ) (r : Refusal) → Mates s n i j → (pair_at w s i j).answer ≡ Answers.Refused r → ⊥) → judgement ≡ Ok tt
   passed_judged f = go judgement refl
     where
-      go : (v : Verdict) → judgement ≡ v → v ≡ Verdicts.Passed
-      go Verdicts.Passed e = refl
-      go (Verdicts.Refused r) e = let b = judged_first r e in let q = judged_called w s b.i b.j r b.refused in absurd (f b.i b.j q.0 b.mates q.1)
+      go : (v : Result (Unit {0}) Refusal) → judgement ≡ v → v ≡ Ok tt
+      go (Ok done) e = refl
+      go (Err r) e = let b = judged_first r e in let q = judged_called w s b.i b.j r b.refused in absurd (f b.i b.j q.0 b.mates q.1)
 
   -- no second refusal is that of the first refused pair
   one_first : (r q : Refusal) → FirstRefused w s n r → FirstRefused w s n q → r ≡ q
@@ -140,12 +139,12 @@ module _ (w : Strategies) (s : List ℕ) (n : ℕ) where
           u
 
   -- so the first refused pair decides the judgement
-  pub first_judged : (r : Refusal) → FirstRefused w s n r → judgement ≡ Verdicts.Refused r
+  pub first_judged : (r : Refusal) → FirstRefused w s n r → judgement ≡ Err r
   first_judged r b = go judgement refl
     where
-      go : (v : Verdict) → judgement ≡ v → v ≡ Verdicts.Refused r
-      go Verdicts.Passed e = let q = judged_called w s b.i b.j r b.refused in absurd (judged_passed e b.i b.j q.0 b.mates q.1)
-      go (Verdicts.Refused q) e = ap Verdicts.Refused (one_first q r (judged_first q e) b)
+      go : (v : Result (Unit {0}) Refusal) → judgement ≡ v → v ≡ Err r
+      go (Ok done) e = let q = judged_called w s b.i b.j r b.refused in absurd (judged_passed e b.i b.j q.0 b.mates q.1)
+      go (Err q) e = ap Err (one_first q r (judged_first q e) b)
 
   -- the pair call refuses that pair too: by the same number, at record 1 where the group names i and at record 2 where it names j
   pub first_named : (r : Refusal) (b : FirstRefused w s n r) → Named b.i b.j (pair_at w s b.i b.j).answer (Answers.Refused r)

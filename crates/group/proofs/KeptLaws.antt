@@ -1,4 +1,5 @@
 -- A corrected group is cut as the group that was given: sizes and headers stay.
+use Rattle.std.specs.Prelude.{Ok}
 use Prim.Native.Nat.{ℕ, suc, ◌+◌, ◌-◌, ◌<◌, ◌≤◌}
 use mathlib.Core.Path.{◌≡◌, sym, ◌∙◌, ap}
 use mathlib.Core.List.{List}
@@ -15,7 +16,6 @@ use Rattle.stats.specs.declared.CorrectionStats.{CorrectionStats}
 use Rattle.strategy.specs.declared.Strategies.{Strategies}
 use Rattle.pair_merge.specs.Promise.{Outside}
 use Rattle.group_frames.specs.Part.{part}
-use Rattle.group_frames.specs.declared.Framing.TheVariants.{Whole}
 use Rattle.group_frames.specs.Frame.{begin_of, start_of, end_of, record_of, frames_of}
 use Rattle.group_frames.proofs.PartLaws.{length_part}
 use Rattle.group_frames.proofs.PlaceLaws.{begin_mono, start_end, records_apart}
@@ -86,7 +86,7 @@ module _ (w : Strategies) (s : List ℕ) (g : CorrectionStats) (n p o : ℕ) (u 
       ∙ sym (get_or-take 32 (part s b e) y 0 m'))
 
   -- the frames of the corrected group are as many, and lie where they lay
-  pub frames_stay : frames_of u ≡ Whole n
+  pub frames_stay : frames_of u ≡ Ok n
   frames_stay =
       let c = whole_clean s n a.framed in
       let fit : begin_of s n ≤ length u = omega (arith, c.1.1, a.size) in

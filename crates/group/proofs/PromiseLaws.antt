@@ -1,4 +1,5 @@
 -- The group call keeps its promise, from the whole call on, and no second outcome does.
+use Rattle.std.specs.Prelude.{Result, Ok, Err}
 use Prim.Native.Nat.{ℕ, ◌+◌, ◌-◌, ◌<◌, ◌≤◌}
 use mathlib.Core.Path.{◌≡◌, refl, sym, ◌∙◌, ap, subst, subst₂}
 use mathlib.Core.List.{List, [], ◌∷◌}
@@ -17,14 +18,12 @@ use Rattle.stats.specs.declared.CorrectionStats.{CorrectionStats}
 use Rattle.stats.specs.Counts.{plus, full}
 use Rattle.stats.proofs.CountLaws.{plus_assoc, plus_zero}
 use Rattle.strategy.specs.declared.Strategies.{Strategies}
-use Rattle.strategy.specs.declared.Numbered.TheVariants as Numbers
 use Rattle.strategy.specs.Cap.{cap_outside}
 use Rattle.strategy.specs.Number.{numbered_of}
 use Rattle.strategy.proofs.NumberLaws.{are_capped}
 use Rattle.pair.proofs.CallLaws.{call_capped, call_records}
 use Rattle.pair.specs.declared.Answer.TheVariants as Answers
 use Rattle.group_frames.specs.Part.{part}
-use Rattle.group_frames.specs.declared.Framing.TheVariants.{Whole}
 use Rattle.group_frames.specs.Frame.{begin_of, start_of, end_of, frames_of}
 use Rattle.group_frames.proofs.CleanLaws.{whole_clean}
 use Rattle.group_mates.specs.Register.{pairs_of}
@@ -33,8 +32,6 @@ use Rattle.fields.proofs.AmongLaws.{here, later, among_cons, among_none}
 use Rattle.group_mates.specs.Promise.{Mates, one, times}
 use Rattle.group_mates.proofs.OnceLaws.{pairs_once}
 use Rattle.group_mates.proofs.MateLaws.{among_mates, mates_among}
-use Rattle.group_verdicts.specs.declared.Verdict.{Verdict}
-use Rattle.group_verdicts.specs.declared.Verdict.TheVariants as Verdicts
 use Rattle.group_verdicts.specs.Judged.{both_at, pair_at}
 use Rattle.group_applying.specs.Applied.{grown, overlaps_in}
 use Rattle.group_applying.proofs.WrittenLaws.{written_size, written_first, written_second, written_out}
@@ -70,7 +67,7 @@ grown_is w s (e ∷ l) g = grown_is w s l (plus g (pair_at w s e.0 e.1).after.st
 -- ---- an accepted group is what the promise says
 module _ (w : Strategies) (s : List ℕ) (g : CorrectionStats) (n : ℕ) where
   abbrev after : Ended
-  after = on_pairs w s g n Verdicts.Passed
+  after = on_pairs w s g n (Ok tt)
 
   -- a byte in no record of a pair of the list is in no record that stands there
   outside : (x : ℕ) → ((i j : ℕ) → Among (pairs_of s n) i j → Elsewhere s i x × Elsewhere s j x) → (k : ℕ) → 0 < times (pairs_of s n) k → Elsewhere s k x
@@ -79,7 +76,7 @@ module _ (w : Strategies) (s : List ℕ) (g : CorrectionStats) (n : ℕ) where
       (λ (y : (j : ℕ) × Among (pairs_of s n) j k). (a y.0 k y.1).1) (times_among (pairs_of s n) k q)
 
   -- what is left when every pair passes and is treated
-  treated : cap_outside w.cap ≡ false → frames_of s ≡ Whole n → judgement w s n ≡ Verdicts.Passed
+  treated : cap_outside w.cap ≡ false → frames_of s ≡ Ok n → judgement w s n ≡ Ok tt
       → Accepted w s g n (length (pairs_of s n)) (overlaps_in w s (pairs_of s n)) after.bytes after.stats
   treated capped framed judged =
       let fit : begin_of s n ≤ length s = omega (arith, (whole_clean s n framed).1.1) in
@@ -140,7 +137,7 @@ pub record Same (n p o n' p' o' : ℕ) (u u' : List ℕ) (h h' : CorrectionStats
 
 pub one_outcome : (w : Strategies) (s : List ℕ) (g : CorrectionStats) (n p o n' p' o' : ℕ) (u u' : List ℕ) (h h' : CorrectionStats) → Accepted w s g n p o u h → Accepted w s g n' p' o' u' h' → Same n p o n' p' o' u u' h h'
 one_outcome w s g n p o n' p' o' u u' h h' a b =
-    let q : Whole n ≡ Whole n' = sym a.framed ∙ b.framed in
+    let q : Ok n ≡ Ok n' = sym a.framed ∙ b.framed in
     let z : n ≡ n' = cc in
     let c = a.numbered (pairs_of s n) (paired s n) in
     let d = b.numbered (pairs_of s n) (subst (λ (q : ℕ). Paired s q (pairs_of s n)) z (paired s n)) in
@@ -175,11 +172,11 @@ module _ (m k cap : ℕ) (s : List ℕ) (g : CorrectionStats) where
 
   -- a group that is answered 0 and three numbers: m and k name strategies, the cap is one, no count is full, and it is accepted by them
   pub accepted : (n p o : ℕ) → group_numbers call.answer ≡ 0 ∷ n ∷ p ∷ o ∷ []
-      → (w : Strategies) × (numbered_of m k cap ≡ Numbers.Are w) × (full g ≡ false) × Accepted w s g n p o call.bytes call.stats
+      → (w : Strategies) × (numbered_of m k cap ≡ Ok w) × (full g ≡ false) × Accepted w s g n p o call.bytes call.stats
   accepted n p o e = go (cases m k cap s g)
     where
       Wanted : Type 0
-      Wanted = (w : Strategies) × (numbered_of m k cap ≡ Numbers.Are w) × (full g ≡ false) × Accepted w s g n p o call.bytes call.stats
+      Wanted = (w : Strategies) × (numbered_of m k cap ≡ Ok w) × (full g ≡ false) × Accepted w s g n p o call.bytes call.stats
 
       never : (r : Refusal) → call ≡ ended (Refused r) s g → Wanted
       never r d =
@@ -194,7 +191,7 @@ module _ (m k cap : ℕ) (s : List ℕ) (g : CorrectionStats) where
       go (refused_pair w n₁ r a b c j d) = never r d
       go (all_treated w n₁ a b c j d) =
           let l = pairs_of s n₁ in
-          let q : 0 ∷ n₁ ∷ length l ∷ overlaps_in w s l ∷ [] ≡ 0 ∷ n ∷ p ∷ o ∷ [] = sym (said (on_pairs w s g n₁ Verdicts.Passed) d) ∙ e in
+          let q : 0 ∷ n₁ ∷ length l ∷ overlaps_in w s l ∷ [] ≡ 0 ∷ n ∷ p ∷ o ∷ [] = sym (said (on_pairs w s g n₁ (Ok tt)) d) ∙ e in
           let x : n₁ ≡ n = cc in
           let y : length l ≡ p = cc in
           let z : overlaps_in w s l ≡ o = cc in
@@ -237,7 +234,7 @@ module _ (m k cap : ℕ) (s : List ℕ) (g : CorrectionStats) where
       to e (broken_frames w r a b c d) = by r e d (by_frames w r a b c)
       to e (refused_pair w n r a b c j d) = by r e d (by_pair w n r a b c (judged_first w s n r j))
       to e (all_treated w n a b c j d) =
-          let q : 0 ∷ n ∷ _ ∷ _ ∷ [] ≡ x ∷ y ∷ z ∷ [] = sym (said (on_pairs w s g n Verdicts.Passed) d) ∙ e in
+          let q : 0 ∷ n ∷ _ ∷ _ ∷ [] ≡ x ∷ y ∷ z ∷ [] = sym (said (on_pairs w s g n (Ok tt)) d) ∙ e in
           let c : ◌≡◌ {A = ℕ} 0 1 = cc in absurd (omega arith)
 
       from : (x₁ y₁ z₁ : ℕ) → FirstFailed m k cap s g x₁ y₁ z₁ → group_numbers call.answer ≡ x₁ ∷ y₁ ∷ z₁ ∷ []
@@ -245,33 +242,33 @@ module _ (m k cap : ℕ) (s : List ℕ) (g : CorrectionStats) where
       from x₁ y₁ z₁ (by_cap a) = said _ (ends_unnamed m k cap s g Cap a)
       from x₁ y₁ z₁ (by_counts w a b) = said _ (ends_full m k cap s g w a b)
       from x₁ y₁ z₁ (by_frames w r a b c) = said _ (ends_framed m k cap s g w a b ∙ ap (on_frames w s g) c)
-      from x₁ y₁ z₁ (by_pair w n r a b c f) = said _ (ends_judged m k cap s g w a b n c (Verdicts.Refused r) (first_judged w s n r f))
+      from x₁ y₁ z₁ (by_pair w n r a b c f) = said _ (ends_judged m k cap s g w a b n c (Err r) (first_judged w s n r f))
 
   -- 0 and three numbers, n the first, are answered exactly where m and k name strategies, the cap is one, no count is full, the n frames are whole and no
   -- pair of mates is refused
   pub done_exactly : (n : ℕ) → ((p : ℕ) × (o : ℕ) × (group_numbers call.answer ≡ 0 ∷ n ∷ p ∷ o ∷ []))
-      ↔ ((w : Strategies) × (numbered_of m k cap ≡ Numbers.Are w) × (full g ≡ false) × (frames_of s ≡ Whole n)
+      ↔ ((w : Strategies) × (numbered_of m k cap ≡ Ok w) × (full g ≡ false) × (frames_of s ≡ Ok n)
       × ((i j : ℕ) (r : Refusal) → Mates s n i j → (pair_at w s i j).answer ≡ Answers.Refused r → ⊥))
   done_exactly n = (
     λ d. let x = accepted n d.0 d.1 d.2 in (x.0, x.1, x.2, x.3.framed, x.3.passed),
-    λ c. (_, _, said _ (ends_judged m k cap s g c.0 c.1 c.2 n c.3 Verdicts.Passed (passed_judged c.0 s n c.4))),
+    λ c. (_, _, said _ (ends_judged m k cap s g c.0 c.1 c.2 n c.3 (Ok tt) (passed_judged c.0 s n c.4))),
   )
 
   -- a group that is refused where strategies, counts and frames are not is refused by the first refused pair
   pub first_refused : (r : Refusal) → call.answer ≡ Refused r
-      → (w : Strategies) → numbered_of m k cap ≡ Numbers.Are w → full g ≡ false → (n : ℕ) → frames_of s ≡ Whole n → FirstRefused w s n r
+      → (w : Strategies) → numbered_of m k cap ≡ Ok w → full g ≡ false → (n : ℕ) → frames_of s ≡ Ok n → FirstRefused w s n r
   first_refused r e w a b n c = go (judgement w s n) refl
     where
-      answer : (v : Verdict) → judgement w s n ≡ v → Refused r ≡ (on_pairs w s g n v).answer
+      answer : (v : Result (Unit {0}) Refusal) → judgement w s n ≡ v → Refused r ≡ (on_pairs w s g n v).answer
       answer v d = sym e ∙ ap (λ (x : Ended). x.answer) (ends_judged m k cap s g w a b n c v d)
 
-      go : (v : Verdict) → judgement w s n ≡ v → FirstRefused w s n r
-      go (Verdicts.Refused q) d =
-          let f : Refused r ≡ Refused q = answer (Verdicts.Refused q) d in
+      go : (v : Result (Unit {0}) Refusal) → judgement w s n ≡ v → FirstRefused w s n r
+      go (Err q) d =
+          let f : Refused r ≡ Refused q = answer (Err q) d in
           let z : q ≡ r = cc in
-          judged_first w s n r (d ∙ ap Verdicts.Refused z)
-      go Verdicts.Passed d =
-          let f : Refused r ≡ Done n _ _ = answer Verdicts.Passed d in
+          judged_first w s n r (d ∙ ap Err z)
+      go (Ok tt) d =
+          let f : Refused r ≡ Done n _ _ = answer (Ok tt) d in
           let z : ◌≡◌ {A = ℕ} 0 1 = cc in absurd (omega arith)
 
   -- no second refusal fits

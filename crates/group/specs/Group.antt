@@ -1,19 +1,14 @@
 -- The whole group call: its answer, every byte and the counts.
-use Rattle.std.specs.Prelude.{ℕ, cond, List, [], ◌∷◌, length}
+use Rattle.refusal.specs.declared.Refusal.{Refusal}
+use Rattle.std.specs.Prelude.{ℕ, cond, List, [], ◌∷◌, length, Result, Ok, Err}
 use Rattle.refusal.specs.declared.Refusal.TheVariants.{Count}
 use Rattle.refusal.specs.Table.{number_of, place_of, operation_of}
 use Rattle.stats.specs.declared.CorrectionStats.{CorrectionStats}
 use Rattle.stats.specs.Counts.{full}
 use Rattle.strategy.specs.declared.Strategies.{Strategies}
-use Rattle.strategy.specs.declared.Numbered.{Numbered}
-use Rattle.strategy.specs.declared.Numbered.TheVariants as Numbers
 use Rattle.strategy.specs.Number.{numbered_of}
-use Rattle.group_frames.specs.declared.Framing.{Framing}
-use Rattle.group_frames.specs.declared.Framing.TheVariants.{Whole, Broken}
 use Rattle.group_frames.specs.Frame.{frames_of}
 use Rattle.group_mates.specs.Register.{pairs_of}
-use Rattle.group_verdicts.specs.declared.Verdict.{Verdict}
-use Rattle.group_verdicts.specs.declared.Verdict.TheVariants as Verdicts
 use Rattle.group_verdicts.specs.Judged.{verdict_at, judge_by}
 use Rattle.group_applying.specs.Applied.{written, grown, overlaps_in}
 use Rattle.group.specs.declared.GroupAnswer.{GroupAnswer}
@@ -34,22 +29,22 @@ abbrev pub ended : GroupAnswer → List ℕ → CorrectionStats → Ended
 ended a s g = record { answer = a; bytes = s; stats = g }
 
 -- a refusal leaves the group s and the counts g as they came; else each pair holds what the pair call gives
-abbrev pub on_pairs : Strategies → List ℕ → CorrectionStats → ℕ → Verdict → Ended
-on_pairs w s g n (Verdicts.Refused r) = ended (Refused r) s g
-on_pairs w s g n Verdicts.Passed = ended (Done n (length (pairs_of s n)) (overlaps_in w s (pairs_of s n))) (written w s (pairs_of s n) s) (grown w s (pairs_of s n) g)
+abbrev pub on_pairs : Strategies → List ℕ → CorrectionStats → ℕ → Result (Unit {0}) Refusal → Ended
+on_pairs w s g n (Err r) = ended (Refused r) s g
+on_pairs w s g n (Ok done) = ended (Done n (length (pairs_of s n)) (overlaps_in w s (pairs_of s n))) (written w s (pairs_of s n) s) (grown w s (pairs_of s n) g)
 
 -- the frames, then the pairs in order of the first's index
-abbrev pub on_frames : Strategies → List ℕ → CorrectionStats → Framing → Ended
-on_frames w s g (Broken r) = ended (Refused r) s g
-on_frames w s g (Whole n) = on_pairs w s g n (judge_by (verdict_at w s) (pairs_of s n))
+abbrev pub on_frames : Strategies → List ℕ → CorrectionStats → Result ℕ Refusal → Ended
+on_frames w s g (Err r) = ended (Refused r) s g
+on_frames w s g (Ok n) = on_pairs w s g n (judge_by (verdict_at w s) (pairs_of s n))
 
 unfoldable pub framed_of : Strategies → List ℕ → CorrectionStats → Ended
 framed_of w s g = on_frames w s g (frames_of s)
 
 -- 10, then 22, then 9, then the rest
-abbrev pub on_numbered : List ℕ → CorrectionStats → Numbered → Ended
-on_numbered s g (Numbers.Refused r) = ended (Refused r) s g
-on_numbered s g (Numbers.Are w) = cond (full g) (ended (Refused Count) s g) (framed_of w s g)
+abbrev pub on_numbered : List ℕ → CorrectionStats → Result Strategies Refusal → Ended
+on_numbered s g (Err r) = ended (Refused r) s g
+on_numbered s g (Ok w) = cond (full g) (ended (Refused Count) s g) (framed_of w s g)
 
 unfoldable pub group_of : ℕ → ℕ → ℕ → List ℕ → CorrectionStats → Ended
 group_of agreement disagreement cap s g = on_numbered s g (numbered_of agreement disagreement cap)

@@ -1,18 +1,16 @@
 -- What a reader is promised of a group call: no loop and no order of writing in it. It speaks of any list that names the pairs; that
 -- there is one is a law (`paired`), so nobody has to believe how the pairs are found, listed and judged (`pairs_of`, `judge_by`).
-use Rattle.std.specs.Prelude.{ℕ, ◌<◌, ◌≤◌, ◌≡◌, true, false, List, [], ◌∷◌, ◌⊎◌, length, get_or}
+use Rattle.std.specs.Prelude.{ℕ, ◌<◌, ◌≤◌, ◌≡◌, true, false, List, [], ◌∷◌, ◌⊎◌, length, get_or, Ok, Err}
 use Rattle.refusal.specs.declared.Refusal.{Refusal}
 use Rattle.refusal.specs.declared.Refusal.TheVariants.{Strategy, Cap}
 use Rattle.refusal.specs.Table.{number_of, place_of, operation_of}
 use Rattle.stats.specs.declared.CorrectionStats.{CorrectionStats}
 use Rattle.stats.specs.Counts.{zeroed, plus, full}
 use Rattle.strategy.specs.declared.Strategies.{Strategies}
-use Rattle.strategy.specs.declared.Numbered.TheVariants as Numbers
 use Rattle.strategy.specs.Number.{numbered_of}
 use Rattle.pair.specs.declared.Answer.TheVariants as Answers
 use Rattle.pair.specs.Pair.{pair_of}
 use Rattle.group_frames.specs.Part.{part}
-use Rattle.group_frames.specs.declared.Framing.TheVariants.{Whole, Broken}
 use Rattle.group_frames.specs.Frame.{start_of, end_of, frames_of}
 use Rattle.fields.specs.Among.{Among}
 use Rattle.group_mates.specs.Promise.{Mates, Once}
@@ -37,7 +35,7 @@ pair_growths w s (e ∷ l) = plus (pair_at w s e.0 e.1).after.stats (pair_growth
 -- a group s that is accepted with the counts g: n records, p pairs of which o overlap; u and h are what it leaves. `called`: what stands
 -- for a pair here is what the pair call gives, with counts from 0
 pub record Accepted (w : Strategies) (s : List ℕ) (g : CorrectionStats) (n p o : ℕ) (u : List ℕ) (h : CorrectionStats) : Type 0 where
-  pub framed : frames_of s ≡ Whole n
+  pub framed : frames_of s ≡ Ok n
   pub called : (i j : ℕ) → pair_at w s i j ≡ pair_of w (both_at s i j)
   pub passed : (i j : ℕ) (r : Refusal) → Mates s n i j → (pair_at w s i j).answer ≡ Answers.Refused r → ⊥
   pub first : (i j : ℕ) → Mates s n i j → part u (start_of s i) (end_of s i) ≡ (pair_at w s i j).after.first
@@ -56,9 +54,9 @@ pub record FirstRefused (w : Strategies) (s : List ℕ) (n : ℕ) (r : Refusal) 
 
 -- the number x, the place y and the operation z of the first check that fails: of the strategies' numbers m and k, the cap, the counts g, the frames of s, its pairs
 pub data FirstFailed (m k cap : ℕ) (s : List ℕ) (g : CorrectionStats) : ℕ → ℕ → ℕ → Type 0 where
-  by_strategies : numbered_of m k cap ≡ Numbers.Refused Strategy → FirstFailed m k cap s g 10 0 0
-  by_cap : numbered_of m k cap ≡ Numbers.Refused Cap → FirstFailed m k cap s g 22 0 0
-  by_counts : (w : Strategies) → numbered_of m k cap ≡ Numbers.Are w → full g ≡ true → FirstFailed m k cap s g 9 0 0
-  by_frames : (w : Strategies) (r : Refusal) → numbered_of m k cap ≡ Numbers.Are w → full g ≡ false → frames_of s ≡ Broken r → FirstFailed m k cap s g (number_of r) (place_of r) (operation_of r)
-  by_pair : (w : Strategies) (n : ℕ) (r : Refusal) → numbered_of m k cap ≡ Numbers.Are w → full g ≡ false → frames_of s ≡ Whole n → FirstRefused w s n r
+  by_strategies : numbered_of m k cap ≡ Err Strategy → FirstFailed m k cap s g 10 0 0
+  by_cap : numbered_of m k cap ≡ Err Cap → FirstFailed m k cap s g 22 0 0
+  by_counts : (w : Strategies) → numbered_of m k cap ≡ Ok w → full g ≡ true → FirstFailed m k cap s g 9 0 0
+  by_frames : (w : Strategies) (r : Refusal) → numbered_of m k cap ≡ Ok w → full g ≡ false → frames_of s ≡ Err r → FirstFailed m k cap s g (number_of r) (place_of r) (operation_of r)
+  by_pair : (w : Strategies) (n : ℕ) (r : Refusal) → numbered_of m k cap ≡ Ok w → full g ≡ false → frames_of s ≡ Ok n → FirstRefused w s n r
       → FirstFailed m k cap s g (number_of r) (place_of r) (operation_of r)

@@ -7,11 +7,9 @@ ghost use Rattle.group_frames.specs.Frame.{frames_of};
 ghost use Rattle.group_frames.specs.Table.{FrameTable};
 ghost use Rattle.group.specs.Group.{ended, framed_of, group_of};
 
-use group_frames::Framing;
-use group_verdicts::Verdict;
 use refusal::Refusal;
 use stats::CorrectionStats;
-use strategy::{Numbered, Strategies};
+use strategy::Strategies;
 
 // What a group call answers: how many records, pairs and overlapping pairs there are, or why it is
 // refused. A refusal changes nothing.
@@ -51,15 +49,15 @@ fn group_pairs(
     w: Strategies,
     stats: CorrectionStats,
 ) -> Grouped
-    requires { FrameTable buf.old begins.now n × (frames_of buf.old ≡ Framing.Whole n) × (full stats ≡ false) }
+    requires { FrameTable buf.old begins.now n × (frames_of buf.old ≡ Ok n) × (full stats ≡ false) }
     ensures { ended result.answer buf.new result.stats ≡ framed_of w buf.old stats }
 {
     let mut mate = [1usize; 256];
     group_mates::find(buf, begins, n, &mut mate);
     let v = group_verdicts::judge_all(buf, begins, n, &mate);
     match v {
-        Verdict::Refused(r) => refused(r, stats),
-        Verdict::Passed => {
+        Err(r) => refused(r, stats),
+        Ok(()) => {
             let applied = group_applying::apply_all(buf, room, begins, n, &mate, w, stats);
             let after = applied.stats;
             Grouped {
@@ -87,8 +85,8 @@ fn group_framed(
     let mut begins = [1usize; 257];
     let f = group_frames::cut(buf, &mut begins);
     match f {
-        Framing::Broken(r) => refused(r, stats),
-        Framing::Whole(n) => group_pairs(buf, room, &begins, n, w, stats),
+        Err(r) => refused(r, stats),
+        Ok(n) => group_pairs(buf, room, &begins, n, w, stats),
     }
 }
 
@@ -106,8 +104,8 @@ pub fn group(
     let mut room = [0u8; 65536];
     let numbered = strategy::by_number(agreement, disagreement, cap);
     match numbered {
-        Numbered::Refused(r) => refused(r, stats),
-        Numbered::Are(w) => {
+        Err(r) => refused(r, stats),
+        Ok(w) => {
             if stats.full() {
                 return refused(Refusal::Count, stats);
             }

@@ -1,4 +1,5 @@
 -- One turn of the loop that treats the pairs.
+use Rattle.std.specs.Prelude.{Ok}
 use Prim.Native.Nat.{ℕ, suc, ◌+◌, ◌-◌, ◌*◌, ◌<◌, ◌≤◌}
 use mathlib.Core.Path.{◌≡◌, refl, ◌∙◌, ap, ap₂}
 use mathlib.Core.List.{List, [], ◌∷◌}
@@ -22,7 +23,6 @@ use Rattle.group_frames.proofs.PlaceLaws.{at_start, at_end, at_order, at_in}
 use Rattle.group_mates.specs.Register.{mates_of, mate_cons, pairs_from, pairs_of}
 use Rattle.group_mates.specs.Promise.{times, Once}
 use Rattle.group_mates.proofs.OnceLaws.{pairs_once, pairs_half}
-use Rattle.group_verdicts.specs.declared.Verdict.TheVariants.{Passed}
 use Rattle.group_verdicts.specs.Judged.{pair_at, judge_by}
 use Rattle.group_verdicts.specs.Indexed.{indexed_at}
 use Rattle.group_verdicts.proofs.IndexLaws.{passed_cleared, first_passed}
@@ -38,7 +38,7 @@ pub record Applying (w : Strategies) (s₀ : List ℕ) (g₀ : CorrectionStats) 
   pub size : length s ≡ length s₀
   pub once : Once n l
   pub fresh : (j : ℕ) → 0 < times l j → part s (start_of s₀ j) (end_of s₀ j) ≡ record_of s₀ j
-  pub passed : judge_by (indexed_at s₀) l ≡ Passed
+  pub passed : judge_by (indexed_at s₀) l ≡ Ok tt
   pub room : Room g (131072 * length l)
   pub bytes : written w s₀ l s ≡ written w s₀ (pairs_of s₀ n) s₀
   pub counts : grown w s₀ l g ≡ grown w s₀ (pairs_of s₀ n) g₀
@@ -50,7 +50,7 @@ pub record Applying (w : Strategies) (s₀ : List ℕ) (g₀ : CorrectionStats) 
 abbrev pub rest : List ℕ → ℕ → ℕ → List (ℕ × ℕ)
 rest s n i = pairs_from (mates_of s n) i (n - i)
 
-pub applying_start : (w : Strategies) (s : List ℕ) (g : CorrectionStats) (n : ℕ) → n ≤ 256 → Room g (128 * 131072) → judge_by (indexed_at s) (pairs_of s n) ≡ Passed
+pub applying_start : (w : Strategies) (s : List ℕ) (g : CorrectionStats) (n : ℕ) → n ≤ 256 → Room g (128 * 131072) → judge_by (indexed_at s) (pairs_of s n) ≡ Ok tt
     → Applying w s g n (rest s n 0) s g 0 0
 applying_start w s g n few r v =
     let h = pairs_half s n in

@@ -1,4 +1,7 @@
 -- What any pair call keeps: the lengths of both records; and by how much its counts can grow.
+use Rattle.std.specs.Prelude.{Result, Ok, Err}
+use Rattle.refusal.specs.declared.Refusal.{Refusal}
+use Rattle.pair_judgement.specs.declared.Untreated.TheVariants as Untreateds
 use Prim.Native.Nat.{ℕ, suc, ◌+◌, ◌-◌, ◌*◌, ◌≤◌}
 use mathlib.Core.Path.{◌≡◌, refl}
 use mathlib.Core.Bool.{Bool, true, false}
@@ -6,8 +9,6 @@ use mathlib.Core.List.{List, [], ◌∷◌}
 use native.Mathlib.Omega.{arith}
 use lib.ListN.{length}
 use Rattle.fields.specs.declared.Layout.{Layout}
-use Rattle.fields.specs.declared.Checked.{Checked}
-use Rattle.fields.specs.declared.Checked.TheVariants.{Good, Bad}
 use Rattle.fields.specs.Check.{check_of}
 use Rattle.fields.proofs.CheckLaws.{good_sound}
 use Rattle.stats.specs.Counts.{zeroed}
@@ -21,9 +22,7 @@ use Rattle.positions.proofs.StepLaws.{ruled_fine, steps_length}
 use Rattle.positions.proofs.PointLaws.{Rises}
 use Rattle.pair_merge.specs.Shared.{shared, merged}
 use Rattle.pair_merge.proofs.PromiseLaws.{shared_rises}
-use Rattle.pair_judgement.specs.declared.Judged.{Judged}
-use Rattle.pair_judgement.specs.declared.Judged.TheVariants as Judge
-use Rattle.pair_judgement.specs.Judgement.{judged_of}
+use Rattle.pair_judgement.specs.Judgement.{judged_of, Judged}
 use Rattle.pair.specs.Pair.{Outcome, on_reference, on_judged, on_good, records_of}
 use Rattle.pair_judgement.specs.Reason.{lengthless}
 use Rattle.pair_judgement.proofs.TreatLaws.{few_bases}
@@ -33,15 +32,15 @@ pub record Long (s : State) (o : Outcome) : Type 0 where
   pub first : length o.after.first ≡ length s.first
   pub second : length o.after.second ≡ length s.second
 
-long_good : (s : State) (k : Checked) (f : Layout → Outcome) → ((y : Layout) → Long s (f y)) → Long s (on_good k s f)
-long_good s (Good y) f h = h y
-long_good s (Bad r) f h = record { first = refl; second = refl }
+long_good : (s : State) (k : Result Layout Refusal) (f : Layout → Outcome) → ((y : Layout) → Long s (f y)) → Long s (on_good k s f)
+long_good s (Ok y) f h = h y
+long_good s (Err r) f h = record { first = refl; second = refl }
 
 long_judged : (w : Strategies) (y z : Layout) (s : State) (k : Judged) → Long s (on_judged w y z s k)
 unfolding merged
-long_judged w y z s (Judge.Refused r) = record { first = refl; second = refl }
-long_judged w y z s (Judge.Apart r) = record { first = refl; second = refl }
-long_judged w y z s (Judge.Both p q) = go (lengthless p q)
+long_judged w y z s (Err (Untreateds.Refused r)) = record { first = refl; second = refl }
+long_judged w y z s (Err (Untreateds.Apart r)) = record { first = refl; second = refl }
+long_judged w y z s (Ok (p , q)) = go (lengthless p q)
   where
     go : (t : Bool) → Long s (on_reference w y z s p.start q.start t)
     go true = record { first = refl; second = refl }
@@ -75,9 +74,9 @@ module _ (w : Strategies) (a b : List ℕ) where
 
   most_judged : (y z : Layout) → 2 * y.count ≤ 131072 → (k : Judged) → AtMost 131072 (on_judged w y z s k).after.stats
   unfolding merged
-  most_judged y z h (Judge.Refused r) = zero_most 131072
-  most_judged y z h (Judge.Apart r) = zero_most 131072
-  most_judged y z h (Judge.Both p q) = go (lengthless p q)
+  most_judged y z h (Err (Untreateds.Refused r)) = zero_most 131072
+  most_judged y z h (Err (Untreateds.Apart r)) = zero_most 131072
+  most_judged y z h (Ok (p , q)) = go (lengthless p q)
     where
       go : (t : Bool) → AtMost 131072 (on_reference w y z s p.start q.start t).after.stats
       go true = zero_most 131072
@@ -90,10 +89,10 @@ module _ (w : Strategies) (a b : List ℕ) where
   unfolding records_of
   call_most = first (check_of a 1) refl
     where
-      second : (y : Layout) → 2 * y.count ≤ 131072 → (k : Checked) → AtMost 131072 (on_good k s (λ z. on_judged w y z s (judged_of y z a b 1 2))).after.stats
-      second y h (Good z) = most_judged y z h (judged_of y z a b 1 2)
-      second y h (Bad r) = zero_most 131072
+      second : (y : Layout) → 2 * y.count ≤ 131072 → (k : Result Layout Refusal) → AtMost 131072 (on_good k s (λ z. on_judged w y z s (judged_of y z a b 1 2))).after.stats
+      second y h (Ok z) = most_judged y z h (judged_of y z a b 1 2)
+      second y h (Err r) = zero_most 131072
 
-      first : (k : Checked) → check_of a 1 ≡ k → AtMost 131072 (on_good k s (λ y. on_good (check_of b 2) s (λ z. on_judged w y z s (judged_of y z a b 1 2)))).after.stats
-      first (Good y) e = second y (few_bases a y (good_sound a 1 y e)) (check_of b 2)
-      first (Bad r) e = zero_most 131072
+      first : (k : Result Layout Refusal) → check_of a 1 ≡ k → AtMost 131072 (on_good k s (λ y. on_good (check_of b 2) s (λ z. on_judged w y z s (judged_of y z a b 1 2)))).after.stats
+      first (Ok y) e = second y (few_bases a y (good_sound a 1 y e)) (check_of b 2)
+      first (Err r) e = zero_most 131072

@@ -13,7 +13,6 @@ ghost use Rattle.group_verdicts.specs.Indexed.{indexed_at};
 ghost use Rattle.group_applying.specs.Applied.{AppliedTo};
 ghost use Rattle.group_applying.specs.Within.{start_in, end_in, Given, Within, overlap_of, BothPut};
 
-use group_verdicts::Verdict;
 use pair_merge::Met;
 use stats::CorrectionStats;
 use strategy::Strategies;
@@ -92,7 +91,7 @@ pub fn apply_all(
     w: Strategies,
     stats: CorrectionStats,
 ) -> Applied
-    requires { FrameTable buf.old begins.now n × Mated buf.old mate.now n × (65536 ≤ length room.old) × Room stats (128 * 131072) × (judge_by (indexed_at buf.old) (pairs_of buf.old n) ≡ Verdict.Passed) }
+    requires { FrameTable buf.old begins.now n × Mated buf.old mate.now n × (65536 ≤ length room.old) × Room stats (128 * 131072) × (judge_by (indexed_at buf.old) (pairs_of buf.old n) ≡ Ok tt) }
     ensures { AppliedTo w buf.old (pairs_of buf.old n) stats buf.new result }
 {
     let mut pairs: usize = 0;

@@ -1,4 +1,5 @@
 -- One frame, and one turn of the loop that cuts a group into frames.
+use Rattle.std.specs.Prelude.{Result, Ok, Err}
 use Prim.Native.Nat.{ℕ, zero, suc, ◌+◌, ◌-◌, ◌<◌, ◌≤◌}
 use mathlib.Core.Path.{◌≡◌, refl, sym, ◌∙◌, ap, ap₂}
 use mathlib.Core.Bool.{Bool, true, false, cond}
@@ -14,55 +15,50 @@ use lib.Seq.{get_or-set_same, get_or-set_other}
 use Rattle.refusal.specs.declared.Refusal.{Refusal}
 use Rattle.refusal.specs.declared.Refusal.TheVariants as Why
 use Rattle.fields.specs.declared.Layout.{Layout}
-use Rattle.fields.specs.declared.Checked.{Checked}
-use Rattle.fields.specs.declared.Checked.TheVariants.{Good, Bad}
 use Rattle.fields.specs.Number.{unsigned}
 use Rattle.fields.specs.Check.{check_of}
 use Rattle.fields.proofs.CheckLaws.{good_sound}
-use Rattle.group_frames.specs.declared.Frame.{Frame}
-use Rattle.group_frames.specs.declared.Frame.TheVariants.{To, Refused}
-use Rattle.group_frames.specs.declared.Framing.TheVariants.{Whole, Broken}
 use Rattle.group_frames.specs.Part.{part}
 use Rattle.group_frames.specs.Frame.{frame_end, begin_of, start_of, end_of, record_of, on_checked, frame_of, on_frame, frames_from, frames_of}
 use Rattle.group_frames.specs.Table.{FrameTable}
 
 -- ---- one frame, by what the code finds
 module _ (s : List ℕ) (p k : ℕ) (inside : p ≤ length s) where
-  pub frame_short : length s - p < 4 → Refused (Why.Frame k) ≡ frame_of s p k
+  pub frame_short : length s - p < 4 → Err (Why.Frame k) ≡ frame_of s p k
   unfolding frame_of
   frame_short h = simp (lt-ltb (length s) (p + 4) (omega arith))
 
   module _ (four : 4 ≤ length s - p) (size : ℕ) (e : size ≡ unsigned 4 s p) where
-    pub frame_past : length s - p - 4 < size → Refused (Why.Frame k) ≡ frame_of s p k
+    pub frame_past : length s - p - 4 < size → Err (Why.Frame k) ≡ frame_of s p k
     unfolding frame_of
     frame_past h = simp (le-ltb (length s) (p + 4) (omega arith), lt-ltb (length s) (frame_end s p) (omega arith))
 
-    pub frame_checked : size ≤ length s - p - 4 → (c c' : Checked) → c ≡ check_of (part s (p + 4) (p + 4 + size)) k → c ≡ c' → on_checked c' (p + 4 + size) ≡ frame_of s p k
+    pub frame_checked : size ≤ length s - p - 4 → (c c' : Result Layout Refusal) → c ≡ check_of (part s (p + 4) (p + 4 + size)) k → c ≡ c' → on_checked c' (p + 4 + size) ≡ frame_of s p k
     unfolding frame_of
     frame_checked h c c' f g =
         let f' : c ≡ check_of (part s (p + 4) (frame_end s p)) k = f ∙ ap (λ (z : ℕ). check_of (part s (p + 4) (p + 4 + z)) k) e in
         ap₂ on_checked (sym g ∙ f') (ap (λ (z : ℕ). p + 4 + z) e) ∙ simp (le-ltb (length s) (p + 4) (omega arith), le-ltb (length s) (frame_end s p) (omega arith))
 
 -- ---- what a frame without a fault shows
-to_good : (c : Checked) (x e : ℕ) → on_checked c x ≡ To e → (y : Layout) × ((c ≡ Good y) × (x ≡ e))
-to_good (Good y) x e h = let z : x ≡ e = cc in (y, (refl, z))
-to_good (Bad r) x e h = let z : ◌≡◌ {A = ℕ} 0 1 = cc in absurd (omega arith)
+to_good : (c : Result Layout Refusal) (x e : ℕ) → on_checked c x ≡ Ok e → (y : Layout) × ((c ≡ Ok y) × (x ≡ e))
+to_good (Ok y) x e h = let z : x ≡ e = cc in (y, (refl, z))
+to_good (Err r) x e h = let z : ◌≡◌ {A = ℕ} 0 1 = cc in absurd (omega arith)
 
-refused_to : (r : Refusal) (e : ℕ) → Refused r ≡ To e → ⊥
+refused_to : (r : Refusal) (e : ℕ) → Err r ≡ Ok e → ⊥
 refused_to r e h = let z : ◌≡◌ {A = ℕ} 0 1 = cc in omega arith
 
 pub record Framed (s : List ℕ) (p k e : ℕ) : Type 0 where
   pub end : e ≡ frame_end s p
   pub inside : frame_end s p ≤ length s
   pub layout : Layout
-  pub good : check_of (part s (p + 4) (frame_end s p)) k ≡ Good layout
+  pub good : check_of (part s (p + 4) (frame_end s p)) k ≡ Ok layout
 
-pub to_framed : (s : List ℕ) (p k e : ℕ) → frame_of s p k ≡ To e → Framed s p k e
+pub to_framed : (s : List ℕ) (p k e : ℕ) → frame_of s p k ≡ Ok e → Framed s p k e
 unfolding frame_of
 to_framed s p k e h = go (ltb (length s) (p + 4)) (ltb (length s) (frame_end s p)) refl h
   where
     go : (t u : Bool) → ltb (length s) (frame_end s p) ≡ u
-        → cond t (Refused (Why.Frame k)) (cond u (Refused (Why.Frame k)) (on_checked (check_of (part s (p + 4) (frame_end s p)) k) (frame_end s p))) ≡ To e → Framed s p k e
+        → cond t (Err (Why.Frame k)) (cond u (Err (Why.Frame k)) (on_checked (check_of (part s (p + 4) (frame_end s p)) k) (frame_end s p))) ≡ Ok e → Framed s p k e
     go true u f g = absurd (refused_to (Why.Frame k) e g)
     go false true f g = absurd (refused_to (Why.Frame k) e g)
     go false false f g =
@@ -90,7 +86,7 @@ unfolding begin_of
 going_start s begins h = record { here = refl; left = refl; placed = placed_start s begins h }
 
 -- one frame more in the table: it ends where the next begins
-pub placed_next : (s begins : List ℕ) (k : ℕ) → FrameTable s begins k → k < 256 → (q : ℕ) → frame_of s (begin_of s k) k ≡ To q
+pub placed_next : (s begins : List ℕ) (k : ℕ) → FrameTable s begins k → k < 256 → (q : ℕ) → frame_of s (begin_of s k) k ≡ Ok q
     → (q ≡ begin_of s (k + 1)) × FrameTable s (set begins (k + 1) q) (k + 1)
 unfolding start_of end_of begin_of
 placed_next s begins k t room q h =
@@ -109,12 +105,12 @@ placed_next s begins k t room q h =
       },
     )
 
-pub frames_none : (s : List ℕ) (m k : ℕ) → length s ≤ begin_of s k → frames_from s m k ≡ Whole k
+pub frames_none : (s : List ℕ) (m k : ℕ) → length s ≤ begin_of s k → frames_from s m k ≡ Ok k
 unfolding frames_from
 frames_none s zero k h = simp (le-ltb (begin_of s k) (length s) h)
 frames_none s (suc m) k h = simp (le-ltb (begin_of s k) (length s) h)
 
-pub frames_many : (s : List ℕ) (k : ℕ) → begin_of s k < length s → frames_from s 0 k ≡ Broken Why.TooManyRecords
+pub frames_many : (s : List ℕ) (k : ℕ) → begin_of s k < length s → frames_from s 0 k ≡ Err Why.TooManyRecords
 unfolding frames_from
 frames_many s k h = simp (lt-ltb (begin_of s k) (length s) h)
 
@@ -126,38 +122,38 @@ module _ (s begins : List ℕ) (k p : ℕ) (g : Going s begins k p) where
   pub going_in : p ≤ length s
   going_in = omega (arith, g.here, g.placed.fit)
 
-  pub said_none : length s ≤ p → Whole k ≡ frames_of s
+  pub said_none : length s ≤ p → Ok k ≡ frames_of s
   said_none h = sym (frames_none s (256 - k) k (omega (arith, g.here))) ∙ g.left
 
-  module _ (room : k < 256) (more : p < length s) (f f' : Frame) (e : f ≡ frame_of s p k) (e' : f ≡ f') where
+  module _ (room : k < 256) (more : p < length s) (f f' : Result ℕ Refusal) (e : f ≡ frame_of s p k) (e' : f ≡ f') where
     abbrev m : ℕ
     m = 256 - (k + 1)
 
     turn : on_frame f' (frames_from s m (suc k)) ≡ frames_of s
     turn =
         let u : suc m ≡ 256 - k = omega arith in
-        ap (λ (z : Frame). on_frame z (frames_from s m (suc k))) (sym e' ∙ e ∙ ap (λ (z : ℕ). frame_of s z k) g.here)
+        ap (λ (z : Result ℕ Refusal). on_frame z (frames_from s m (suc k))) (sym e' ∙ e ∙ ap (λ (z : ℕ). frame_of s z k) g.here)
         ∙ sym (frames_one s m k (omega (arith, g.here))) ∙ ap (λ (z : ℕ). frames_from s z k) u ∙ g.left
 
-    pub said_refused : (r : Refusal) → f' ≡ Refused r → Broken r ≡ frames_of s
-    said_refused r h = ap (λ (z : Frame). on_frame z (frames_from s m (suc k))) (sym h) ∙ turn
+    pub said_refused : (r : Refusal) → f' ≡ Err r → Err r ≡ frames_of s
+    said_refused r h = ap (λ (z : Result ℕ Refusal). on_frame z (frames_from s m (suc k))) (sym h) ∙ turn
 
-    pub going_next : (q : ℕ) → f' ≡ To q → Going s (set begins (k + 1) q) (k + 1) q
+    pub going_next : (q : ℕ) → f' ≡ Ok q → Going s (set begins (k + 1) q) (k + 1) q
     going_next q h =
         let d = placed_next s begins k g.placed room q (sym (ap (λ (z : ℕ). frame_of s z k) g.here) ∙ sym e ∙ e' ∙ h) in
         record {
           here = d.0;
-          left = ap (frames_from s m) (add-one k) ∙ ap (λ (z : Frame). on_frame z (frames_from s m (suc k))) (sym h) ∙ turn;
+          left = ap (frames_from s m) (add-one k) ∙ ap (λ (z : Result ℕ Refusal). on_frame z (frames_from s m (suc k))) (sym h) ∙ turn;
           placed = d.1;
         }
 
   module _ (full : 256 ≤ k) where
-    pub said_many : p < length s → Broken Why.TooManyRecords ≡ frames_of s
+    pub said_many : p < length s → Err Why.TooManyRecords ≡ frames_of s
     said_many l =
         let z : 256 - k ≡ 0 = omega arith in
         sym (frames_many s k (omega (arith, g.here))) ∙ ap (λ (w : ℕ). frames_from s w k) (sym z) ∙ g.left
 
-    pub said_all : length s ≤ p → (Whole 256 ≡ frames_of s) × FrameTable s begins 256
+    pub said_all : length s ≤ p → (Ok 256 ≡ frames_of s) × FrameTable s begins 256
     said_all l =
         let e : k ≡ 256 = omega (arith, g.placed.few) in
-        (ap Whole (sym e) ∙ said_none l, rw e at g.placed)
+        (ap Ok (sym e) ∙ said_none l, rw e at g.placed)

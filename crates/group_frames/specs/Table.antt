@@ -1,10 +1,9 @@
 -- What the table of frames holds.
-use Rattle.std.specs.Prelude.{ℕ, ◌+◌, ◌≤◌, ◌<◌, ◌≡◌, List, length, get_or}
+use Rattle.refusal.specs.declared.Refusal.{Refusal}
+use Rattle.std.specs.Prelude.{ℕ, ◌+◌, ◌≤◌, ◌<◌, ◌≡◌, List, length, get_or, Result, Ok, Err}
 use Rattle.fields.specs.Layout.{layout_of}
 use Rattle.fields.specs.Sound.{Sound}
 use Rattle.group_frames.specs.Frame.{begin_of, record_of}
-use Rattle.group_frames.specs.declared.Framing.{Framing}
-use Rattle.group_frames.specs.declared.Framing.TheVariants.{Whole, Broken}
 
 -- n frames lie in s, each with a sound record; the table has where each begins, and where the last ends
 pub record FrameTable (s begins : List ℕ) (n : ℕ) : Type 0 where
@@ -15,6 +14,6 @@ pub record FrameTable (s begins : List ℕ) (n : ℕ) : Type 0 where
   pub sound : (k : ℕ) → k < n → Sound (record_of s k) (layout_of (record_of s k))
 
 -- a group that is cut whole fills it
-abbrev pub Filled : List ℕ → List ℕ → Framing → Type 0
-Filled s begins (Whole n) = FrameTable s begins n
-Filled s begins (Broken r) = Unit {0}
+abbrev pub Filled : List ℕ → List ℕ → Result ℕ Refusal → Type 0
+Filled s begins (Ok n) = FrameTable s begins n
+Filled s begins (Err r) = Unit {0}

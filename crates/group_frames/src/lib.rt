@@ -5,52 +5,37 @@ ghost use Rattle.std.specs.Prelude.{◌≡◌, ℕ, ◌<◌, ◌≤◌, length};
 ghost use Rattle.group_frames.specs.Frame.{frame_of, frames_of, record_of};
 ghost use Rattle.group_frames.specs.Table.{FrameTable, Filled};
 
-use fields::Checked;
 use refusal::Refusal;
 
 // How many records a group may have.
 pub const MOST: usize = 256;
 
-// What stands where a frame begins: a record that ends at this byte, or the refusal.
-#[derive(Clone, Copy)]
-pub enum Frame {
-    To(usize),
-    Refused(Refusal),
-}
-
-// A group cut into so many records, or the refusal of its first faulty frame.
-#[derive(Clone, Copy)]
-pub enum Framing {
-    Whole(usize),
-    Broken(Refusal),
-}
-
 // The frame of record k, which begins at a byte of the group.
-pub fn frame_at(s: &[u8], begin: usize, k: usize) -> Frame
+pub fn frame_at(s: &[u8], begin: usize, k: usize) -> Result<usize, Refusal>
     requires { (begin < length s.now) × (k < 256) }
     ensures { result ≡ frame_of s.now begin k }
 {
     let place = k as u16;
     let left = s.len() - begin;
     if left < 4 {
-        return Frame::Refused(Refusal::Frame(place));
+        return Err(Refusal::Frame(place));
     }
     let size = fields::u32_at(s, begin) as usize;
     if left - 4 < size {
-        return Frame::Refused(Refusal::Frame(place));
+        return Err(Refusal::Frame(place));
     }
     let start = begin + 4;
     let end = start + size;
     let checked = fields::check_record(&s[start..end], place);
     match checked {
-        Checked::Good(_) => Frame::To(end),
-        Checked::Bad(r) => Frame::Refused(r),
+        Ok(_) => Ok(end),
+        Err(r) => Err(r),
     }
 }
 
 // Cuts a group into its records, each checked. Afterwards `begins` holds where each frame begins,
 // and behind these where the last one ends.
-pub fn cut(s: &[u8], begins: &mut [usize]) -> Framing
+pub fn cut(s: &[u8], begins: &mut [usize]) -> Result<usize, Refusal>
     requires { 257 ≤ length begins.old }
     ensures { (result ≡ frames_of s.now) × Filled s.now begins.new result }
 {
@@ -59,14 +44,14 @@ pub fn cut(s: &[u8], begins: &mut [usize]) -> Framing
     begins[0] = 0;
     while k < MOST {
         if s.len() <= begin {
-            return Framing::Whole(k);
+            return Ok(k);
         }
         let f = frame_at(s, begin, k);
         match f {
-            Frame::Refused(r) => {
-                return Framing::Broken(r);
+            Err(r) => {
+                return Err(r);
             }
-            Frame::To(end) => {
+            Ok(end) => {
                 k += 1;
                 begin = end;
                 begins[k] = end;
@@ -74,9 +59,9 @@ pub fn cut(s: &[u8], begins: &mut [usize]) -> Framing
         }
     }
     if begin < s.len() {
-        return Framing::Broken(Refusal::TooManyRecords);
+        return Err(Refusal::TooManyRecords);
     }
-    Framing::Whole(MOST)
+    Ok(MOST)
 }
 
 // Record k of a group by its table, as a part of the group.

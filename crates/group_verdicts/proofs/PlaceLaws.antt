@@ -1,5 +1,8 @@
 -- Records i and j of a group are judged as the pair call judges them: with its answer, or refused by the number of its refusal, at the
 -- index of the record that it names. Assumes nothing.
+use Rattle.std.specs.Prelude.{Result, Option, Ok, Err, Some, None}
+use Rattle.cigar.specs.declared.Totals.{Totals}
+use Rattle.pair_judgement.specs.declared.Untreated.TheVariants as Untreateds
 use Prim.Native.Nat.{ℕ, ◌+◌}
 use mathlib.Core.Path.{◌≡◌, refl, sym, ap, ◌∙◌}
 use mathlib.Core.Bool.{Bool, true, false, cond, ◌&&◌, ◌||◌, not}
@@ -12,32 +15,20 @@ use Rattle.refusal.specs.declared.Refusal.TheVariants.{RecordShort, RecordLong, 
 use Rattle.refusal.specs.declared.Row.{Row}
 use Rattle.refusal.specs.Table.{plain, row_of, number_of, place_of, operation_of}
 use Rattle.fields.specs.declared.Layout.{Layout}
-use Rattle.fields.specs.declared.Position.{Position}
-use Rattle.fields.specs.declared.Position.TheVariants.{At, Unplaced}
-use Rattle.fields.specs.declared.Checked.{Checked}
-use Rattle.fields.specs.declared.Checked.TheVariants.{Good, Bad}
 use Rattle.fields.specs.Flag.{has_bit, unmapped}
 use Rattle.fields.specs.Layout.{header, bases_at, tags_at, layout_of}
 use Rattle.fields.specs.Position.{position_of, same_id}
 use Rattle.fields.specs.Check.{check_of}
 use Rattle.strategy.specs.declared.Strategies.{Strategies}
-use Rattle.cigar.specs.declared.Walk.{Walk}
-use Rattle.cigar.specs.declared.Walk.TheVariants.{Totals, UnknownCode}
-use Rattle.cigar.specs.declared.Operations.{Operations}
-use Rattle.cigar.specs.declared.Operations.TheVariants as Ops
 use Rattle.cigar.specs.declared.Extent.{Extent}
-use Rattle.cigar.specs.declared.Span.{Span}
-use Rattle.cigar.specs.declared.Span.TheVariants as Spans
 use Rattle.cigar.specs.Operation.{ops_in}
-use Rattle.cigar.specs.Judge.{walk_of, judged, operations_of, extent, span_of}
+use Rattle.cigar.specs.Judge.{walk_of, judged, operations_of, extent, span_of, totals}
 use Rattle.positions.specs.Step.{State}
 use Rattle.pair_merge.specs.Shared.{shared}
 use Rattle.pair_judgement.specs.declared.Reason.{Reason}
 use Rattle.pair_judgement.specs.declared.Reason.TheVariants.{Unmapped, ReferencesDiffer, NegativePosition, NoReferenceLength, NoSharedPosition}
-use Rattle.pair_judgement.specs.declared.Judged.{Judged}
-use Rattle.pair_judgement.specs.declared.Judged.TheVariants as Judge
 use Rattle.pair_judgement.specs.Reason.{lengthless}
-use Rattle.pair_judgement.specs.Judgement.{on_uses, on_span, on_position, span_in, mapped_of, judged_of}
+use Rattle.pair_judgement.specs.Judgement.{on_uses, on_span, on_position, span_in, mapped_of, judged_of, Judged}
 use Rattle.pair.specs.declared.Answer.{Answer}
 use Rattle.pair.specs.declared.Answer.TheVariants as Answers
 use Rattle.pair.specs.Pair.{Outcome, answer_of, on_reference, on_judged, on_good, records_of}
@@ -73,7 +64,7 @@ module _ (x y : ℕ) where
   refuses false f n e rest = rest
 
   -- 1 to 4
-  check_alike : (s : List ℕ) → Alike Good Bad x y (check_of s x) (check_of s y)
+  check_alike : (s : List ℕ) → Alike Ok Err x y (check_of s x) (check_of s y)
   unfolding check_of
   check_alike s =
       refuses (ltb (length s) 32) RecordShort 1 (λ p. refl)
@@ -83,22 +74,22 @@ module _ (x y : ℕ) where
       (fine (layout_of s)))))
 
   -- 5 and 7
-  judged_alike : (count n : ℕ) (k : Walk) → Alike Ops.Uses Ops.Refused x y (judged count n x k) (judged count n y k)
-  judged_alike count n (Totals read reference) = refuses (ltb 0 count && ltb 0 n && not (eqb read count)) ReadTotal 7 (λ p. refl) (fine reference)
-  judged_alike count n (UnknownCode i) = refused (λ p. OperationCode p i) 5 i (λ p. refl)
+  judged_alike : (count n : ℕ) (k : Result Totals ℕ) → Alike Ok Err x y (judged count n x k) (judged count n y k)
+  judged_alike count n (Ok (totals read reference)) = refuses (ltb 0 count && ltb 0 n && not (eqb read count)) ReadTotal 7 (λ p. refl) (fine reference)
+  judged_alike count n (Err i) = refused (λ p. OperationCode p i) 5 i (λ p. refl)
 
   -- 8
-  end_alike : (pos n : ℕ) → Alike Spans.Covers Spans.Refused x y (span_of pos n x) (span_of pos n y)
+  end_alike : (pos n : ℕ) → Alike Ok Err x y (span_of pos n x) (span_of pos n y)
   unfolding span_of
   end_alike pos n = refuses (ltb 2147483646 (pos + n)) ReferenceEnd 8 (λ p. refl) (fine (extent pos n))
 
   -- 5, 7 and 8
-  span_alike : (z : Layout) (s : List ℕ) (pos : ℕ) → Alike Spans.Covers Spans.Refused x y (span_in z s pos x) (span_in z s pos y)
+  span_alike : (z : Layout) (s : List ℕ) (pos : ℕ) → Alike Ok Err x y (span_in z s pos x) (span_in z s pos y)
   unfolding span_in operations_of
   span_alike z s pos = go _ _ (judged_alike z.count (length (ops_in z s)) (walk_of (ops_in z s)))
     where
-      go : (k k' : Operations) → Alike Ops.Uses Ops.Refused x y k k'
-          → Alike Spans.Covers Spans.Refused x y (on_uses k (λ n. span_of pos n x)) (on_uses k' (λ n. span_of pos n y))
+      go : (k k' : Result ℕ Refusal) → Alike Ok Err x y k k'
+          → Alike Ok Err x y (on_uses k (λ n. span_of pos n x)) (on_uses k' (λ n. span_of pos n y))
       go k k' (fine n) = end_alike pos n
       go k k' (faulty r q h) = faulty r q h
 
@@ -106,14 +97,14 @@ module _ (x y : ℕ) where
 module _ (i j : ℕ) where
   -- two judgements: the same; or both refuse the first, or both the second
   data Judges : Judged → Judged → Type 0 where
-    placeless : (r : Reason) → Judges (Judge.Apart r) (Judge.Apart r)
-    both : (p q : Extent) → Judges (Judge.Both p q) (Judge.Both p q)
-    of_first : (r q : Refusal) → Same 1 i r q → Judges (Judge.Refused r) (Judge.Refused q)
-    of_second : (r q : Refusal) → Same 2 j r q → Judges (Judge.Refused r) (Judge.Refused q)
+    placeless : (r : Reason) → Judges (Err (Untreateds.Apart r)) (Err (Untreateds.Apart r))
+    both : (p q : Extent) → Judges (Ok (p , q)) (Ok (p , q))
+    of_first : (r q : Refusal) → Same 1 i r q → Judges (Err (Untreateds.Refused r)) (Err (Untreateds.Refused q))
+    of_second : (r q : Refusal) → Same 2 j r q → Judges (Err (Untreateds.Refused r)) (Err (Untreateds.Refused q))
 
   -- step 7
-  spans_judge : (u u' v v' : Span) → Alike Spans.Covers Spans.Refused 1 i u u' → Alike Spans.Covers Spans.Refused 2 j v v'
-      → Judges (on_span u (λ s. on_span v (λ t. Judge.Both s t))) (on_span u' (λ s. on_span v' (λ t. Judge.Both s t)))
+  spans_judge : (u u' v v' : Result Extent Refusal) → Alike Ok Err 1 i u u' → Alike Ok Err 2 j v v'
+      → Judges (on_span u (λ s. on_span v (λ t. Ok (s , t)))) (on_span u' (λ s. on_span v' (λ t. Ok (s , t))))
   spans_judge u u' v v' (fine p) (fine q) = both p q
   spans_judge u u' v v' (fine p) (faulty r q h) = of_second r q h
   spans_judge u u' v v' (faulty r q h) k = of_first r q h
@@ -123,13 +114,13 @@ module _ (i j : ℕ) where
   unfolding mapped_of
   mapped_judge y z a b = go (same_id (header a).ref_id (header b).ref_id) (position_of (header a).pos) (position_of (header b).pos)
     where
-      by : Bool → Position → Position → ℕ → ℕ → Judged
-      by t u v m n = cond t (on_position u (λ p. on_position v (λ q. on_span (span_in y a p m) (λ s. on_span (span_in z b q n) (λ t. Judge.Both s t))))) (Judge.Apart ReferencesDiffer)
+      by : Bool → Option ℕ → Option ℕ → ℕ → ℕ → Judged
+      by t u v m n = cond t (on_position u (λ p. on_position v (λ q. on_span (span_in y a p m) (λ s. on_span (span_in z b q n) (λ t. Ok (s , t)))))) (Err (Untreateds.Apart ReferencesDiffer))
 
-      go : (t : Bool) (u v : Position) → Judges (by t u v 1 2) (by t u v i j)
-      go true (At p) (At q) = spans_judge _ _ _ _ (span_alike 1 i y a p) (span_alike 2 j z b q)
-      go true (At p) Unplaced = placeless NegativePosition
-      go true Unplaced v = placeless NegativePosition
+      go : (t : Bool) (u v : Option ℕ) → Judges (by t u v 1 2) (by t u v i j)
+      go true (Some p) (Some q) = spans_judge _ _ _ _ (span_alike 1 i y a p) (span_alike 2 j z b q)
+      go true (Some p) None = placeless NegativePosition
+      go true None v = placeless NegativePosition
       go false u v = placeless ReferencesDiffer
 
   -- steps 4 to 7
@@ -137,7 +128,7 @@ module _ (i j : ℕ) where
   unfolding judged_of
   judged_judge y z a b = go (has_bit (header a).flags unmapped || has_bit (header b).flags unmapped)
     where
-      go : (t : Bool) → Judges (cond t (Judge.Apart Unmapped) (mapped_of y z a b 1 2)) (cond t (Judge.Apart Unmapped) (mapped_of y z a b i j))
+      go : (t : Bool) → Judges (cond t (Err (Untreateds.Apart Unmapped)) (mapped_of y z a b 1 2)) (cond t (Err (Untreateds.Apart Unmapped)) (mapped_of y z a b i j))
       go true = placeless Unmapped
       go false = mapped_judge y z a b
 
@@ -164,11 +155,11 @@ module _ (i j : ℕ) where
       rest : Layout → Layout → ℕ → ℕ → Outcome
       rest y z m n = on_judged w y z s (judged_of y z s.first s.second m n)
 
-      two : (y : Layout) (k k' : Checked) → Alike Good Bad 2 j k k' → Named i j (on_good k s (λ z. rest y z 1 2)).answer (on_good k' s (λ z. rest y z i j)).answer
+      two : (y : Layout) (k k' : Result Layout Refusal) → Alike Ok Err 2 j k k' → Named i j (on_good k s (λ z. rest y z 1 2)).answer (on_good k' s (λ z. rest y z i j)).answer
       two y k k' (fine z) = judged_named y z _ _ (judged_judge y z s.first s.second)
       two y k k' (faulty r q h) = at_second r q h.number h.operation h.was h.is
 
-      one : (k k' : Checked) → Alike Good Bad 1 i k k'
+      one : (k k' : Result Layout Refusal) → Alike Ok Err 1 i k k'
           → Named i j (on_good k s (λ y. on_good (check_of s.second 2) s (λ z. rest y z 1 2))).answer
           (on_good k' s (λ y. on_good (check_of s.second j) s (λ z. rest y z i j))).answer
       one k k' (fine y) = two y _ _ (check_alike 2 j s.second)

@@ -1,5 +1,5 @@
 -- The pairs of a group, judged as the pair call judges them.
-use Rattle.std.specs.Prelude.{ℕ, ◌≡◌, List, [], ◌∷◌}
+use Rattle.std.specs.Prelude.{ℕ, ◌≡◌, List, [], ◌∷◌, Result, Ok, Err}
 use Rattle.refusal.specs.declared.Refusal.{Refusal}
 use Rattle.refusal.specs.Table.{number_of, place_of, operation_of}
 use Rattle.stats.specs.Counts.{zeroed}
@@ -10,8 +10,6 @@ use Rattle.pair.specs.declared.Answer.{Answer}
 use Rattle.pair.specs.declared.Answer.TheVariants as Answers
 use Rattle.pair.specs.Pair.{Outcome, records_of}
 use Rattle.group_frames.specs.Frame.{record_of}
-use Rattle.group_verdicts.specs.declared.Verdict.{Verdict}
-use Rattle.group_verdicts.specs.declared.Verdict.TheVariants.{Passed, Refused}
 
 -- records i and j of the group s, with counts from 0
 abbrev pub both_at : List ℕ → ℕ → ℕ → State
@@ -32,20 +30,20 @@ pub data Named (i j : ℕ) : Answer → Answer → Type 0 where
   at_first : (r q : Refusal) → number_of q ≡ number_of r → operation_of q ≡ operation_of r → place_of r ≡ 1 → place_of q ≡ i → Named i j (Answers.Refused r) (Answers.Refused q)
   at_second : (r q : Refusal) → number_of q ≡ number_of r → operation_of q ≡ operation_of r → place_of r ≡ 2 → place_of q ≡ j → Named i j (Answers.Refused r) (Answers.Refused q)
 
-abbrev pub answered : Answer → Verdict
-answered (Answers.NoOverlap r) = Passed
-answered Answers.Overlap = Passed
-answered (Answers.Refused r) = Refused r
+abbrev pub answered : Answer → Result (Unit {0}) Refusal
+answered (Answers.NoOverlap r) = Ok tt
+answered Answers.Overlap = Ok tt
+answered (Answers.Refused r) = Err r
 
-abbrev pub verdict_at : Strategies → List ℕ → ℕ → ℕ → Verdict
+abbrev pub verdict_at : Strategies → List ℕ → ℕ → ℕ → Result (Unit {0}) Refusal
 verdict_at w s i j = answered (judged_at w s i j)
 
 -- one refusal refuses all
-abbrev pub on_verdict : Verdict → Verdict → Verdict
-on_verdict Passed rest = rest
-on_verdict (Refused r) rest = Refused r
+abbrev pub on_verdict : Result (Unit {0}) Refusal → Result (Unit {0}) Refusal → Result (Unit {0}) Refusal
+on_verdict (Ok done) rest = rest
+on_verdict (Err r) rest = Err r
 
 -- the pairs of a list in its order, each with its verdict
-unfoldable pub judge_by : (ℕ → ℕ → Verdict) → List (ℕ × ℕ) → Verdict
-judge_by v [] = Passed
+unfoldable pub judge_by : (ℕ → ℕ → Result (Unit {0}) Refusal) → List (ℕ × ℕ) → Result (Unit {0}) Refusal
+judge_by v [] = Ok tt
 judge_by v (e ∷ l) = on_verdict (v e.0 e.1) (judge_by v l)

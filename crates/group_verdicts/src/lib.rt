@@ -11,25 +11,17 @@ ghost use Rattle.group_mates.specs.Table.{Mated};
 ghost use Rattle.group_verdicts.specs.Indexed.{of_span, of_judged, indexed_of, indexed_at};
 ghost use Rattle.group_verdicts.specs.Judged.{judge_by};
 
-use cigar::{Extent, Span};
+use cigar::Extent;
 use fields::Layout;
-use pair_judgement::{Judged, Where};
 use refusal::Refusal;
 
-// Whether pairs may be treated, or the refusal of the first that may not.
-#[derive(Clone, Copy)]
-pub enum Verdict {
-    Passed,
-    Refused(Refusal),
-}
-
 // What one record covers, as the verdict on its pair.
-fn spanned(p: Span) -> Verdict
+fn spanned(p: Result<Extent, Refusal>) -> Result<(), Refusal>
     ensures { result ≡ of_span p }
 {
     match p {
-        Span::Covers(_) => Verdict::Passed,
-        Span::Refused(r) => Verdict::Refused(r),
+        Ok(_) => Ok(()),
+        Err(r) => Err(r),
     }
 }
 
@@ -42,12 +34,12 @@ struct Side {
 }
 
 // Two sound records on one reference: what each covers judged, the first's first.
-fn spans_of(first: &[u8], second: &[u8], a: Side, b: Side) -> Verdict
+fn spans_of(first: &[u8], second: &[u8], a: Side, b: Side) -> Result<(), Refusal>
     requires { Sound first.now a.layout × Sound second.now b.layout }
-    ensures { result ≡ of_judged (on_span (span_in a.layout first.now a.pos a.index) (λ (s : Extent). on_span (span_in b.layout second.now b.pos b.index) (λ (t : Extent). Judged.Both s t))) }
+    ensures { result ≡ of_judged (on_span (span_in a.layout first.now a.pos a.index) (λ (s : Extent). on_span (span_in b.layout second.now b.pos b.index) (λ (t : Extent). Ok (s , t)))) }
 {
     let span1 = pair_judgement::span_of(first, a.layout, a.pos, a.index);
-    let Span::Covers(_) = span1 else {
+    let Ok(_) = span1 else {
         return spanned(span1);
     };
     let span2 = pair_judgement::span_of(second, b.layout, b.pos, b.index);
@@ -55,13 +47,13 @@ fn spans_of(first: &[u8], second: &[u8], a: Side, b: Side) -> Verdict
 }
 
 // Two sound records judged as a pair; a refusal names the index of the record at fault.
-fn judge_pair(first: &[u8], second: &[u8], i: u16, j: u16) -> Verdict
+fn judge_pair(first: &[u8], second: &[u8], i: u16, j: u16) -> Result<(), Refusal>
     requires { Sound first.now (layout_of first.now) × Sound second.now (layout_of second.now) }
     ensures { result ≡ indexed_of first.now second.now i j }
 {
     let at = pair_judgement::locate(first, second);
-    let Where::On(p, q) = at else {
-        return Verdict::Passed;
+    let Ok((p, q)) = at else {
+        return Ok(());
     };
     let y = fields::layout_of(first);
     let z = fields::layout_of(second);
@@ -79,7 +71,7 @@ fn judge_pair(first: &[u8], second: &[u8], i: u16, j: u16) -> Verdict
 }
 
 // Records i and j of a group judged as a pair.
-fn judge_at(s: &[u8], begins: &[usize], n: usize, i: usize, j: usize) -> Verdict
+fn judge_at(s: &[u8], begins: &[usize], n: usize, i: usize, j: usize) -> Result<(), Refusal>
     requires { FrameTable s.now begins.now n × (i < n) × (j < n) }
     ensures { result ≡ indexed_at s.now i j }
 {
@@ -89,7 +81,7 @@ fn judge_at(s: &[u8], begins: &[usize], n: usize, i: usize, j: usize) -> Verdict
 }
 
 // Every pair judged, in order of the first's index.
-pub fn judge_all(s: &[u8], begins: &[usize], n: usize, mate: &[usize]) -> Verdict
+pub fn judge_all(s: &[u8], begins: &[usize], n: usize, mate: &[usize]) -> Result<(), Refusal>
     requires { FrameTable s.now begins.now n × Mated s.now mate.now n }
     ensures { result ≡ judge_by (indexed_at s.now) (pairs_of s.now n) }
 {
@@ -101,14 +93,14 @@ pub fn judge_all(s: &[u8], begins: &[usize], n: usize, mate: &[usize]) -> Verdic
         } else {
             let v = judge_at(s, begins, n, i, m - 1);
             match v {
-                Verdict::Passed => {
+                Ok(()) => {
                     i += 1;
                 }
-                Verdict::Refused(r) => {
-                    return Verdict::Refused(r);
+                Err(r) => {
+                    return Err(r);
                 }
             }
         }
     }
-    Verdict::Passed
+    Ok(())
 }

@@ -5,7 +5,7 @@
 ghost use Rattle.std.specs.Prelude.{◌<◌, ◌≤◌};
 
 use pair::Answer;
-use stats::{CorrectionStats, Merged};
+use stats::CorrectionStats;
 use strategy::{AgreementStrategy, DisagreementStrategy, Strategies};
 
 fn say(text: &[u8]) {
@@ -341,8 +341,8 @@ fn merge(a: u64, b: u64) {
     say_next(b" and ", b);
     let merged = first.merge(second);
     match merged {
-        Merged::Total(sums) => say_next(b": ", sums.overlapping),
-        Merged::Refused(r) => say_answer(Answer::Refused(r)),
+        Ok(sums) => say_next(b": ", sums.overlapping),
+        Err(r) => say_answer(Answer::Refused(r)),
     }
     say(b"\n");
 }

@@ -1,11 +1,11 @@
 -- A merge into lent statistics: its answer in the paper's numbers, exactly when each is given, and what it leaves.
+use Rattle.std.specs.Prelude.{Ok, Err}
 use mathlib.Core.Path.{◌≡◌, refl}
 use mathlib.Core.Bool.{Bool, true, false, cond}
 use mathlib.Core.List.{[], ◌∷◌}
 use mathlib.Core.Logic.{◌↔◌}
 use Rattle.refusal.specs.declared.Refusal.TheVariants.{Sum}
 use Rattle.stats.specs.declared.CorrectionStats.{CorrectionStats}
-use Rattle.stats.specs.declared.Merged.TheVariants as Sums
 use Rattle.stats.specs.Counts.{plus, above}
 use Rattle.lent.specs.declared.MergeCalled.{MergeCalled}
 use Rattle.lent.specs.Lent.{merge_numbers, on_merged, merge_of}
@@ -14,7 +14,7 @@ use Rattle.lent.specs.Lent.{merge_numbers, on_merged, merge_of}
 module _ (g h : CorrectionStats) where
   -- what the test of the sums comes to
   abbrev summed : Bool → MergeCalled
-  summed t = on_merged g (cond t (Sums.Refused Sum) (Sums.Total (plus g h)))
+  summed t = on_merged g (cond t (Err Sum) (Ok (plus g h)))
 
   -- 13 at place 0: a sum is above 2 ^ 64 - 1
   pub merge_refused : (merge_numbers (merge_of g h).answer ≡ 13 ∷ 0 ∷ []) ↔ (above 18446744073709551615 (plus g h) ≡ true)

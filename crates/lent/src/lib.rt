@@ -10,20 +10,13 @@ ghost use Rattle.lent.specs.Lent.{merge_called, merge_of};
 
 use pair::{Answer, Called};
 use refusal::Refusal;
-use stats::{CorrectionStats, Merged};
+use stats::CorrectionStats;
 use strategy::Strategies;
-
-// What a merge answers. A refusal changes nothing.
-#[derive(Clone, Copy)]
-pub enum MergeAnswer {
-    Added,
-    Refused(Refusal),
-}
 
 // The answer, and the counts after the merge.
 #[derive(Clone, Copy)]
 pub struct MergeCalled {
-    pub answer: MergeAnswer,
+    pub answer: Result<(), Refusal>,
     pub stats: CorrectionStats,
 }
 
@@ -33,12 +26,12 @@ pub fn merge_kept(stats: CorrectionStats, other: CorrectionStats) -> MergeCalled
 {
     let merged = stats.merge(other);
     match merged {
-        Merged::Total(sums) => MergeCalled {
-            answer: MergeAnswer::Added,
+        Ok(sums) => MergeCalled {
+            answer: Ok(()),
             stats: sums,
         },
-        Merged::Refused(r) => MergeCalled {
-            answer: MergeAnswer::Refused(r),
+        Err(r) => MergeCalled {
+            answer: Err(r),
             stats,
         },
     }
@@ -76,7 +69,7 @@ pub fn reset_lent(stats: &mut CorrectionStats)
 }
 
 // Adds other counts to the lent ones. Where a sum passes the largest number all are as they were.
-pub fn merge_lent(stats: &mut CorrectionStats, other: CorrectionStats) -> MergeAnswer
+pub fn merge_lent(stats: &mut CorrectionStats, other: CorrectionStats) -> Result<(), Refusal>
     ensures { merge_called result stats.new ≡ merge_of stats.old other }
 {
     let called = merge_kept(*stats, other);

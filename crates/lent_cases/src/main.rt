@@ -9,7 +9,7 @@ ghost use Rattle.positions.specs.Step.{state};
 ghost use Rattle.pair.specs.Pair.{outcome, pair_of};
 ghost use Rattle.lent.specs.Lent.{merge_of};
 
-use lent::{MergeAnswer, MergeCalled};
+use lent::MergeCalled;
 use pair::{Answer, Called};
 use refusal::Refusal;
 use stats::CorrectionStats;
@@ -406,8 +406,8 @@ fn merge(stats: CorrectionStats, other: CorrectionStats) {
     let called = merge_on(stats, other);
     let answer = called.answer;
     match answer {
-        MergeAnswer::Added => say(b": added"),
-        MergeAnswer::Refused(r) => say_refusal(r),
+        Ok(()) => say(b": added"),
+        Err(r) => say_refusal(r),
     }
     let after = called.stats;
     say_counts(b", counts", after);

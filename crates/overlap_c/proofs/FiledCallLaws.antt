@@ -1,4 +1,5 @@
 -- The exported calls on filed groups, by their cases.
+use Rattle.std.specs.Prelude.{Result, Ok, Err}
 use Prim.Native.Nat.{ℕ}
 use mathlib.Core.Path.{◌≡◌, ap, ◌∙◌}
 use mathlib.Core.List.{List}
@@ -11,8 +12,6 @@ use Rattle.stats.specs.declared.CorrectionStats.{CorrectionStats}
 use Rattle.stats.specs.Tally.{counts_at, with_counts}
 use Rattle.filed.specs.declared.FiledAnswer.TheVariants.{Corrected, AlreadyDone, Refused}
 use Rattle.filed.specs.Filed.{Ended, filed_of}
-use Rattle.filed_raw.specs.declared.Filing.{Filing}
-use Rattle.filed_raw.specs.declared.Filing.TheVariants as Filings
 use Rattle.filed_raw.specs.Filing as Filing
 use Rattle.overlap_c.specs.FiledCall.{filed_returned, filed_called, filed_call_of, trailer_returned, trailer_called, trailer_call_of}
 
@@ -37,13 +36,13 @@ module _ (s out c : List ℕ) where
     filed_refused r k a f = ap (λ (x : ℕ). filed_returned x e.bytes c) f ∙ (rw a at filed_as)
 
 -- ---- a raw trailer
-module _ (s : List ℕ) (m k : ℕ) (t t' : List ℕ) (a : Filing) (e : Filing.filing a t' ≡ Filing.file_of m k s t) where
+module _ (s : List ℕ) (m k : ℕ) (t t' : List ℕ) (a : Result ℕ Refusal) (e : Filing.filing a t' ≡ Filing.file_of m k s t) where
   trailer_as : trailer_called (Filing.filing a t') ≡ trailer_call_of s m k t
   unfolding trailer_call_of
   trailer_as = ap trailer_called e
 
-  pub trailer_made : (n : ℕ) → a ≡ Filings.Made n → trailer_returned 0 t' ≡ trailer_call_of s m k t
+  pub trailer_made : (n : ℕ) → a ≡ Ok n → trailer_returned 0 t' ≡ trailer_call_of s m k t
   trailer_made n f = rw f at trailer_as
 
-  pub trailer_refused : (r : Refusal) (x : ℕ) → a ≡ Filings.Refused r → x ≡ code_of r → trailer_returned x t' ≡ trailer_call_of s m k t
+  pub trailer_refused : (r : Refusal) (x : ℕ) → a ≡ Err r → x ≡ code_of r → trailer_returned x t' ≡ trailer_call_of s m k t
   trailer_refused r x f g = ap (λ (y : ℕ). trailer_returned y t') g ∙ (rw f at trailer_as)

@@ -1,4 +1,5 @@
 -- The call that gives the reason tells what the pair call answers of the same records.
+use Rattle.std.specs.Prelude.{Result, Ok, Err}
 use Prim.Native.Nat.{ℕ, ◌+◌, ◌*◌, ◌<◌, ◌≤◌}
 use mathlib.Core.Path.{◌≡◌, refl, sym, ap, subst}
 use mathlib.Core.List.{List}
@@ -13,8 +14,6 @@ use Rattle.refusal.specs.Table.{operation_of, code_of}
 use Rattle.stats.specs.Counts.{full}
 use Rattle.stats.specs.Tally.{counts_at}
 use Rattle.strategy.specs.declared.Strategies.{Strategies}
-use Rattle.strategy.specs.declared.Numbered.{Numbered}
-use Rattle.strategy.specs.declared.Numbered.TheVariants as Numbers
 use Rattle.strategy.specs.Cap.{cap_outside}
 use Rattle.strategy.specs.Number.{numbered_of}
 use Rattle.strategy.proofs.NumberLaws.{refused_is}
@@ -44,10 +43,10 @@ module _ (a b : List ℕ) (m k cap : ℕ) (c : List ℕ) where
   of_checks w false true d e o = absurd (o.counts refl)
   of_checks w false false d e o = ap answer_code (sym (pair_answers w s d e))
 
-  of_numbers : (x : Numbered) → numbered_of m k cap ≡ x → OfRecords (with_numbers a b c x).answer → (with_numbers a b c x).answer ≡ answer_code (answer_on a b)
+  of_numbers : (x : Result Strategies Refusal) → numbered_of m k cap ≡ x → OfRecords (with_numbers a b c x).answer → (with_numbers a b c x).answer ≡ answer_code (answer_on a b)
   unfolding pair_of Given
-  of_numbers (Numbers.Are w) e o = of_checks w (cap_outside w.cap) (full (counts_at c 0)) refl refl o
-  of_numbers (Numbers.Refused r) e o =
+  of_numbers (Ok w) e o = of_checks w (cap_outside w.cap) (full (counts_at c 0)) refl refl o
+  of_numbers (Err r) e o =
       ⊎_elim (λ (z : r ≡ Strategy). absurd (o.strategies (ap code_of z))) (λ (z : (r ≡ Cap) × (cap_outside cap ≡ true)). absurd (o.cap (ap code_of z.0))) (refused_is m k cap r e)
 
   pub of_records : OfRecords (call_of a b m k cap c).answer → (call_of a b m k cap c).answer ≡ answer_code (answer_on a b)

@@ -1,5 +1,6 @@
 -- The exported calls on filed groups: the answer and every byte of each slice that may be written.
-use Rattle.std.specs.Prelude.{ℕ, List, cond, length, eqb}
+use Rattle.refusal.specs.declared.Refusal.{Refusal}
+use Rattle.std.specs.Prelude.{ℕ, List, cond, length, eqb, Result, Ok, Err}
 use Rattle.refusal.specs.declared.Refusal.TheVariants.{CountsSlice}
 use Rattle.refusal.specs.Table.{code_of}
 use Rattle.stats.specs.declared.CorrectionStats.{CorrectionStats}
@@ -7,8 +8,6 @@ use Rattle.stats.specs.Tally.{counts_at, with_counts}
 use Rattle.filed.specs.declared.FiledAnswer.{FiledAnswer}
 use Rattle.filed.specs.declared.FiledAnswer.TheVariants.{Corrected, AlreadyDone, Refused}
 use Rattle.filed.specs.Filed.{Ended, filed_of}
-use Rattle.filed_raw.specs.declared.Filing.{Filing}
-use Rattle.filed_raw.specs.declared.Filing.TheVariants as Filings
 use Rattle.filed_raw.specs.Filing as Filing
 
 -- the answer, the output and the counts after the call
@@ -40,9 +39,9 @@ unfoldable pub filed_call_of : List ℕ → List ℕ → List ℕ → FiledRetur
 filed_call_of s out c = cond (eqb (length c) 32) (filed_called c (filed_of s out (counts_at c 0))) (filed_returned (code_of CountsSlice) out c)
 
 -- of the call that makes a raw trailer: 0 made
-abbrev pub trailer_code : Filing → ℕ
-trailer_code (Filings.Made n) = 0
-trailer_code (Filings.Refused r) = code_of r
+abbrev pub trailer_code : Result ℕ Refusal → ℕ
+trailer_code (Ok n) = 0
+trailer_code (Err r) = code_of r
 
 pub record TrailerReturned : Type 0 where
   pub answer : ℕ

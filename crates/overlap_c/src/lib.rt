@@ -8,7 +8,6 @@ ghost use Rattle.pair_reason.specs.Reason.{reason_call_of};
 ghost use Rattle.overlap_c.specs.FiledCall.{filed_returned, filed_call_of, trailer_returned, trailer_call_of};
 
 use filed::FiledAnswer;
-use filed_raw::Filing;
 use refusal::Refusal;
 
 // How many bytes the four counts take.
@@ -84,7 +83,7 @@ pub extern "C" fn overlap_trailer_call(
 {
     let filing = filed_raw::file(frames, agreement, disagreement, trailer);
     match filing {
-        Filing::Made(_) => 0,
-        Filing::Refused(r) => r.code(),
+        Ok(_) => 0,
+        Err(r) => r.code(),
     }
 }

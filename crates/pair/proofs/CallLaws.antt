@@ -1,4 +1,5 @@
 -- The whole call, by its steps.
+use Rattle.std.specs.Prelude.{Result, Ok, Err}
 use Prim.Native.Nat.{ℕ}
 use mathlib.Core.Path.{◌≡◌, refl, sym, ap, ap₂, ◌∙◌}
 use mathlib.Core.List.{List, [], ◌∷◌}
@@ -8,8 +9,6 @@ use lib.ListN.{length}
 use Rattle.refusal.specs.declared.Refusal.{Refusal}
 use Rattle.refusal.specs.declared.Refusal.TheVariants.{Count, Cap}
 use Rattle.fields.specs.declared.Layout.{Layout}
-use Rattle.fields.specs.declared.Checked.{Checked}
-use Rattle.fields.specs.declared.Checked.TheVariants.{Good, Bad}
 use Rattle.fields.specs.Check.{check_of}
 use Rattle.stats.specs.Counts.{full}
 use Rattle.strategy.specs.declared.Strategies.{Strategies}
@@ -20,8 +19,7 @@ use Rattle.pair_merge.specs.Shared.{shared}
 use Rattle.pair.specs.declared.Answer.TheVariants as Answers
 use Rattle.pair_judgement.specs.declared.Reason.{Reason}
 use Rattle.pair_judgement.specs.declared.Reason.TheVariants.{NoReferenceLength, NoSharedPosition}
-use Rattle.pair_judgement.specs.declared.Judged.{Judged}
-use Rattle.pair_judgement.specs.Judgement.{judged_of}
+use Rattle.pair_judgement.specs.Judgement.{judged_of, Judged}
 use Rattle.pair_judgement.specs.Reason.{lengthless, unshared_of}
 use Rattle.pair_judgement.specs.Ready.{Ready, TreatedTo}
 use Rattle.pair_judgement.proofs.TreatLaws.{Known, both_known, none_reached, nothing_shared}
@@ -70,15 +68,15 @@ module _ (w : Strategies) (s : State) (y z : Layout) (p q : Extent) (u : State) 
 -- ---- the order of judgement
 module _ (w : Strategies) (s : State) where
   -- ---- the records: the first is refused, the second, or both are sound and judged
-  records_first : (k : Checked) (r : Refusal) → k ≡ check_of s.first 1 → k ≡ Bad r → outcome (refused_answer k) s ≡ records_of w s 1 2
+  records_first : (k : Result Layout Refusal) (r : Refusal) → k ≡ check_of s.first 1 → k ≡ Err r → outcome (refused_answer k) s ≡ records_of w s 1 2
   unfolding records_of
   records_first k r e f = rw (← e, f)
 
-  records_second : (y : Layout) → check_of s.first 1 ≡ Good y → (k : Checked) (r : Refusal) → k ≡ check_of s.second 2 → k ≡ Bad r → outcome (refused_answer k) s ≡ records_of w s 1 2
+  records_second : (y : Layout) → check_of s.first 1 ≡ Ok y → (k : Result Layout Refusal) (r : Refusal) → k ≡ check_of s.second 2 → k ≡ Err r → outcome (refused_answer k) s ≡ records_of w s 1 2
   unfolding records_of
   records_second y good₁ k r e f = rw (good₁, ← e, f)
 
-  pub records_judged : (y z : Layout) (j : Judged) → check_of s.first 1 ≡ Good y → check_of s.second 2 ≡ Good z → judged_of y z s.first s.second 1 2 ≡ j
+  pub records_judged : (y z : Layout) (j : Judged) → check_of s.first 1 ≡ Ok y → check_of s.second 2 ≡ Ok z → judged_of y z s.first s.second 1 2 ≡ j
       → on_judged w y z s j ≡ records_of w s 1 2
   unfolding records_of
   records_judged y z j good₁ good₂ e = rw (good₁, good₂, e)
@@ -100,12 +98,12 @@ module _ (w : Strategies) (s : State) where
     pub call_records : records_of w s 1 2 ≡ capped_of w s
     call_records = rw room
 
-    pub call_first : (k : Checked) (r : Refusal) → k ≡ check_of s.first 1 → k ≡ Bad r → outcome (refused_answer k) s ≡ capped_of w s
+    pub call_first : (k : Result Layout Refusal) (r : Refusal) → k ≡ check_of s.first 1 → k ≡ Err r → outcome (refused_answer k) s ≡ capped_of w s
     call_first k r e f = records_first k r e f ∙ call_records
 
-    module _ (y : Layout) (good₁ : check_of s.first 1 ≡ Good y) where
-      pub call_second : (k : Checked) (r : Refusal) → k ≡ check_of s.second 2 → k ≡ Bad r → outcome (refused_answer k) s ≡ capped_of w s
+    module _ (y : Layout) (good₁ : check_of s.first 1 ≡ Ok y) where
+      pub call_second : (k : Result Layout Refusal) (r : Refusal) → k ≡ check_of s.second 2 → k ≡ Err r → outcome (refused_answer k) s ≡ capped_of w s
       call_second k r e f = records_second y good₁ k r e f ∙ call_records
 
-      pub call_judged : (z : Layout) (j j' : Judged) → check_of s.second 2 ≡ Good z → j ≡ judged_of y z s.first s.second 1 2 → j ≡ j' → on_judged w y z s j' ≡ capped_of w s
+      pub call_judged : (z : Layout) (j j' : Judged) → check_of s.second 2 ≡ Ok z → j ≡ judged_of y z s.first s.second 1 2 → j ≡ j' → on_judged w y z s j' ≡ capped_of w s
       call_judged z j j' good₂ e f = records_judged y z j' good₁ good₂ (sym e ∙ f) ∙ call_records

@@ -1,4 +1,6 @@
 -- Two records that were judged and not refused: what treating them gives is what the call gives.
+use Rattle.std.specs.Prelude.{Result, Ok, Err}
+use Rattle.pair_judgement.specs.declared.Untreated.TheVariants as Untreateds
 use Prim.Native.Nat.{ℕ, zero, suc, ◌+◌}
 use mathlib.Core.Path.{◌≡◌, refl, sym, ap, ap₂, ◌∙◌}
 use mathlib.Core.List.{List, [], ◌∷◌}
@@ -12,11 +14,7 @@ use Rattle.positions.specs.Step.{State, job}
 use Rattle.pair_merge.specs.Shared.{shared}
 use Rattle.pair_judgement.specs.declared.Reason.{Reason}
 use Rattle.pair_judgement.specs.declared.Reason.TheVariants.{NoReferenceLength, NoSharedPosition}
-use Rattle.pair_judgement.specs.declared.Judged.{Judged}
-use Rattle.pair_judgement.specs.declared.Judged.TheVariants as Judge
-use Rattle.pair_judgement.specs.declared.Where.{Where}
-use Rattle.pair_judgement.specs.declared.Where.TheVariants.{Apart, On}
-use Rattle.pair_judgement.specs.Judgement.{judged_of}
+use Rattle.pair_judgement.specs.Judgement.{judged_of, Judged}
 use Rattle.pair_judgement.specs.Reason.{lengthless}
 use Rattle.pair_judgement.specs.Where.{where_of}
 use Rattle.pair_judgement.specs.Ready.{TreatedTo, Cleared, TreatedAt}
@@ -62,8 +60,8 @@ module _ (w : Strategies) (s : State) (k : Cleared s.first s.second) where
             ∙ (rw (starts c.extent₁.start p c.span₁.first, starts c.extent₂.start q c.span₂.first) at j),
       )
 
-      go : (x : Where) → where_of s.first s.second ≡ x → TreatedAt x w s u n → (r : Reason) × (outcome (met_answer r n) u ≡ records_of w s 1 2)
-      go (Apart r) e h = (r, ap₂ (λ (m : ℕ) (v : State). outcome (met_answer r m) v) h.1 h.0 ∙ judged_as (Judge.Apart r) (cleared_apart _ _ r e 1 2))
-      go (On p q) e h =
+      go : (x : Result (ℕ × ℕ) Reason) → where_of s.first s.second ≡ x → TreatedAt x w s u n → (r : Reason) × (outcome (met_answer r n) u ≡ records_of w s 1 2)
+      go (Err r) e h = (r, ap₂ (λ (m : ℕ) (v : State). outcome (met_answer r m) v) h.1 h.0 ∙ judged_as (Err (Untreateds.Apart r)) (cleared_apart _ _ r e 1 2))
+      go (Ok (p , q)) e h =
           let c = cleared_on s.first s.second p q k e in
-          on p q c h (lengthless c.extent₁ c.extent₂) refl (judged_as (Judge.Both c.extent₁ c.extent₂) (c.judged 1 2))
+          on p q c h (lengthless c.extent₁ c.extent₂) refl (judged_as (Ok (c.extent₁ , c.extent₂)) (c.judged 1 2))

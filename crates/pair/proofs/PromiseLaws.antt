@@ -1,4 +1,6 @@
 -- The pair call keeps its promise, and no second outcome does.
+use Rattle.std.specs.Prelude.{Result, Ok, Err, Some}
+use Rattle.pair_judgement.specs.declared.Untreated.TheVariants as Untreateds
 use Prim.Native.Nat.{ℕ, ◌+◌}
 use mathlib.Core.Path.{◌≡◌, refl, sym, ap, subst, ◌∙◌}
 use mathlib.Core.List.{List, [], ◌∷◌}
@@ -11,9 +13,6 @@ use Rattle.refusal.specs.declared.Refusal.TheVariants.{Count, Cap}
 use Rattle.fields.specs.declared.Layout.{Layout}
 use Rattle.fields.specs.declared.RefPos.{RefPos}
 use Rattle.fields.specs.declared.ReadOffset.{ReadOffset}
-use Rattle.fields.specs.declared.Position.TheVariants.{At}
-use Rattle.fields.specs.declared.Checked.{Checked}
-use Rattle.fields.specs.declared.Checked.TheVariants.{Good, Bad}
 use Rattle.fields.specs.Layout.{header, layout_of}
 use Rattle.fields.specs.Position.{position_of}
 use Rattle.fields.specs.Check.{check_of}
@@ -24,8 +23,6 @@ use Rattle.stats.specs.Counts.{full}
 use Rattle.strategy.specs.declared.Strategies.{Strategies}
 use Rattle.strategy.specs.Cap.{cap_outside}
 use Rattle.cigar.specs.declared.Extent.{Extent}
-use Rattle.cigar.specs.declared.Span.{Span}
-use Rattle.cigar.specs.declared.Span.TheVariants as Spans
 use Rattle.cigar.proofs.SitsLaws.{in_read}
 use Rattle.fields.specs.Among.{Among}
 use Rattle.positions.specs.Step.{State, job}
@@ -35,11 +32,9 @@ use Rattle.pair_merge.proofs.PromiseLaws.{shared_names, promised}
 use Rattle.pair_merge.proofs.UniqueLaws.{one_outcome}
 use Rattle.pair_judgement.specs.declared.Reason.{Reason}
 use Rattle.pair_judgement.specs.declared.Reason.TheVariants.{Unmapped, ReferencesDiffer, NegativePosition, NoReferenceLength, NoSharedPosition}
-use Rattle.pair_judgement.specs.declared.Judged.{Judged}
-use Rattle.pair_judgement.specs.declared.Judged.TheVariants as Judge
 use Rattle.pair.specs.declared.Answer.{Answer}
 use Rattle.pair.specs.declared.Answer.TheVariants as Answers
-use Rattle.pair_judgement.specs.Judgement.{on_span, span_in, mapped_of, judged_of}
+use Rattle.pair_judgement.specs.Judgement.{on_span, span_in, mapped_of, judged_of, Judged}
 use Rattle.pair_judgement.specs.Reason.{lengthless}
 use Rattle.pair.specs.Pair.{Outcome, outcome, answer_of, on_reference, on_judged, on_good, records_of, pair_of}
 use Rattle.pair.specs.Promise.{NotRefused, NoOverlap, Aligned, from_one, Overlaps, Kept}
@@ -59,9 +54,9 @@ Quiet s o = (o.after ≡ s) ⊎ (o.answer ≡ Answers.Overlap)
 
 quiet_judged : (w : Strategies) (y z : Layout) (s : State) (j : Judged) → Quiet s (on_judged w y z s j)
 unfolding Quiet
-quiet_judged w y z s (Judge.Refused r) = inl refl
-quiet_judged w y z s (Judge.Apart r) = inl refl
-quiet_judged w y z s (Judge.Both p q) = by_length (lengthless p q)
+quiet_judged w y z s (Err (Untreateds.Refused r)) = inl refl
+quiet_judged w y z s (Err (Untreateds.Apart r)) = inl refl
+quiet_judged w y z s (Ok (p , q)) = by_length (lengthless p q)
   where
     go : (l : List (ℕ × ℕ)) → shared y z p.start q.start s.first s.second ≡ l → (merged (job w y z) p.start q.start s ≡ s) ⊎ (answer_of l ≡ Answers.Overlap)
     go [] e = inl (sym (nothing_shared (job w y z) p.start q.start s e))
@@ -71,10 +66,10 @@ quiet_judged w y z s (Judge.Both p q) = by_length (lengthless p q)
     by_length true = inl refl
     by_length false = go (shared y z p.start q.start s.first s.second) refl
 
-quiet_good : (k : Checked) (s : State) (f : Layout → Outcome) → ((y : Layout) → Quiet s (f y)) → Quiet s (on_good k s f)
+quiet_good : (k : Result Layout Refusal) (s : State) (f : Layout → Outcome) → ((y : Layout) → Quiet s (f y)) → Quiet s (on_good k s f)
 unfolding Quiet
-quiet_good (Good y) s f h = h y
-quiet_good (Bad r) s f h = inl refl
+quiet_good (Ok y) s f h = h y
+quiet_good (Err r) s f h = inl refl
 
 quiet : (w : Strategies) (s : State) → Quiet s (pair_of w s)
 unfolding pair_of records_of Quiet
@@ -105,7 +100,7 @@ pub record Passed (w : Strategies) (s : State) (o : Outcome) : Type 0 where
   pub second : Sound s.second (layout_of s.second)
   pub judged : on_judged w (layout_of s.first) (layout_of s.second) s (judged_of (layout_of s.first) (layout_of s.second) s.first s.second 1 2) ≡ o
 
-good_layout : (s : List ℕ) (p : ℕ) (y : Layout) → check_of s p ≡ Good y → (y ≡ layout_of s) × Sound s (layout_of s)
+good_layout : (s : List ℕ) (p : ℕ) (y : Layout) → check_of s p ≡ Ok y → (y ≡ layout_of s) × Sound s (layout_of s)
 good_layout s p y e =
     let g = good_sound s p y e in
     (g.layout, subst (λ (x : Layout). Sound s x) g.layout g)
@@ -117,19 +112,19 @@ passed w s o e n = on_cap (cap_outside w.cap) e
     rest : (y z : Layout) → Outcome
     rest y z = on_judged w y z s (judged_of y z s.first s.second 1 2)
 
-    on_second : (y z : Layout) → check_of s.first 1 ≡ Good y → check_of s.second 2 ≡ Good z → on_judged w y z s (judged_of y z s.first s.second 1 2) ≡ o → Passed w s o
+    on_second : (y z : Layout) → check_of s.first 1 ≡ Ok y → check_of s.second 2 ≡ Ok z → on_judged w y z s (judged_of y z s.first s.second 1 2) ≡ o → Passed w s o
     on_second y z f g h =
         let a = good_layout s.first 1 y f in
         let b = good_layout s.second 2 z g in
         record { first = a.1; second = b.1; judged = (rw (a.0, b.0) at h) }
 
-    on_first : (y : Layout) → check_of s.first 1 ≡ Good y → (k : Checked) → check_of s.second 2 ≡ k → on_good k s (λ z. on_judged w y z s (judged_of y z s.first s.second 1 2)) ≡ o → Passed w s o
-    on_first y f (Good z) g h = on_second y z f g h
-    on_first y f (Bad r) g h = absurd (n r (sym (answer_of_lem _ _ h)))
+    on_first : (y : Layout) → check_of s.first 1 ≡ Ok y → (k : Result Layout Refusal) → check_of s.second 2 ≡ k → on_good k s (λ z. on_judged w y z s (judged_of y z s.first s.second 1 2)) ≡ o → Passed w s o
+    on_first y f (Ok z) g h = on_second y z f g h
+    on_first y f (Err r) g h = absurd (n r (sym (answer_of_lem _ _ h)))
 
-    on_records : (k : Checked) → check_of s.first 1 ≡ k → on_good k s (λ y. on_good (check_of s.second 2) s (λ z. on_judged w y z s (judged_of y z s.first s.second 1 2))) ≡ o → Passed w s o
-    on_records (Good y) f h = on_first y f (check_of s.second 2) refl h
-    on_records (Bad r) f h = absurd (n r (sym (answer_of_lem _ _ h)))
+    on_records : (k : Result Layout Refusal) → check_of s.first 1 ≡ k → on_good k s (λ y. on_good (check_of s.second 2) s (λ z. on_judged w y z s (judged_of y z s.first s.second 1 2))) ≡ o → Passed w s o
+    on_records (Ok y) f h = on_first y f (check_of s.second 2) refl h
+    on_records (Err r) f h = absurd (n r (sym (answer_of_lem _ _ h)))
 
     on_full : (t : Bool) → cond t (outcome (Answers.Refused Count) s) (records_of w s 1 2) ≡ o → Passed w s o
     on_full true h = absurd (n Count (sym (answer_of_lem _ _ h)))
@@ -140,11 +135,11 @@ passed w s o e n = on_cap (cap_outside w.cap) e
     on_cap false h = on_full (full s.stats) h
 
 -- ---- aligned records are refused by their operations or placed, and never apart for what their headers say
-placed_at : (z : ℤ) (n : ℕ) → z ≡ pos n → position_of z ≡ At n
+placed_at : (z : ℤ) (n : ℕ) → z ≡ pos n → position_of z ≡ Some n
 placed_at z n e = ap position_of e
 
 aligned_judged : (y z : Layout) (a b : List ℕ) (i j : ℕ) (al : Aligned a b)
-    → on_span (span_in y a al.pos₁ i) (λ s. on_span (span_in z b al.pos₂ j) (λ t. Judge.Both s t)) ≡ judged_of y z a b i j
+    → on_span (span_in y a al.pos₁ i) (λ s. on_span (span_in z b al.pos₂ j) (λ t. Ok (s , t))) ≡ judged_of y z a b i j
 unfolding judged_of mapped_of
 aligned_judged y z a b i j al =
     rw (al.mapped₁, al.mapped₂, equal_same_id (header a).ref_id (header b).ref_id al.reference, placed_at (header a).pos al.pos₁ al.placed₁, placed_at (header b).pos al.pos₂ al.placed₂)
@@ -207,9 +202,9 @@ module _ (w : Strategies) (s : State) where
       starts : (pos₀ : ℕ) (x : RefPos) → x.0 ≡ pos₀ + 1 → x ≡ from_one pos₀
       starts pos₀ x f = λ i. record { 0 = f i }
 
-      second_span : (x : Extent) → Sound s.first y → Sound s.second z → span_in y s.first al.pos₁ 1 ≡ Spans.Covers x → (v : Span) → span_in z s.second al.pos₂ 2 ≡ v
-          → on_judged w y z s (on_span v (λ t. Judge.Both x t)) ≡ o → Kept w s o al.pos₁ al.pos₂
-      second_span x g h f (Spans.Covers t) k i = by_length (lengthless x t) refl i
+      second_span : (x : Extent) → Sound s.first y → Sound s.second z → span_in y s.first al.pos₁ 1 ≡ Ok x → (v : Result Extent Refusal) → span_in z s.second al.pos₂ 2 ≡ v
+          → on_judged w y z s (on_span v (λ t. Ok (x , t))) ≡ o → Kept w s o al.pos₁ al.pos₂
+      second_span x g h f (Ok t) k i = by_length (lengthless x t) refl i
         where
           l : List (ℕ × ℕ)
           l = shared y z (from_one al.pos₁) (from_one al.pos₂) s.first s.second
@@ -226,12 +221,12 @@ module _ (w : Strategies) (s : State) where
               let b = starts al.pos₂ t.start (spanned z s.second al.pos₂ 2 t k).first in
               subst (λ (u : Outcome). Kept w s u al.pos₁ al.pos₂) (rw (a, b) at j)
               (kept_at al.pos₁ al.pos₂ (answer_of l) g h (says_answer l))
-      second_span x g h f (Spans.Refused r) k i = absurd (n r (sym (answer_of_lem _ _ i)))
+      second_span x g h f (Err r) k i = absurd (n r (sym (answer_of_lem _ _ i)))
 
-      first_span : Sound s.first y → Sound s.second z → (u : Span) → span_in y s.first al.pos₁ 1 ≡ u
-          → on_judged w y z s (on_span u (λ t. on_span (span_in z s.second al.pos₂ 2) (λ v. Judge.Both t v))) ≡ o → Kept w s o al.pos₁ al.pos₂
-      first_span g h (Spans.Covers x) f i = second_span x g h f (span_in z s.second al.pos₂ 2) refl i
-      first_span g h (Spans.Refused r) f i = absurd (n r (sym (answer_of_lem _ _ i)))
+      first_span : Sound s.first y → Sound s.second z → (u : Result Extent Refusal) → span_in y s.first al.pos₁ 1 ≡ u
+          → on_judged w y z s (on_span u (λ t. on_span (span_in z s.second al.pos₂ 2) (λ v. Ok (t , v)))) ≡ o → Kept w s o al.pos₁ al.pos₂
+      first_span g h (Ok x) f i = second_span x g h f (span_in z s.second al.pos₂ 2) refl i
+      first_span g h (Err r) f i = absurd (n r (sym (answer_of_lem _ _ i)))
 
   -- only aligned records overlap
   pub overlap_aligned : (u : State) → pair_of w s ≡ outcome Answers.Overlap u → Aligned s.first s.second
@@ -239,14 +234,14 @@ module _ (w : Strategies) (s : State) where
       let m = passed w s (outcome Answers.Overlap u) e (λ r f. let x : ◌≡◌ {A = ℕ} 0 1 = cc in omega arith) in
       go (judged_of y z s.first s.second 1 2) refl m.judged
     where
-      is_pos : (v : ℤ) (n : ℕ) → position_of v ≡ At n → v ≡ pos n
+      is_pos : (v : ℤ) (n : ℕ) → position_of v ≡ Some n → v ≡ pos n
       is_pos (pos m) n f = ap pos (cc)
       is_pos (negsuc m) n f = let x : ◌≡◌ {A = ℕ} 0 1 = cc in absurd (omega arith)
 
       go : (j : Judged) → judged_of y z s.first s.second 1 2 ≡ j → on_judged w y z s j ≡ outcome Answers.Overlap u → Aligned s.first s.second
-      go (Judge.Refused r) f h = let x : ◌≡◌ {A = ℕ} 0 1 = cc (answer_of_lem _ _ h) in absurd (omega arith)
-      go (Judge.Apart r) f h = let x : ◌≡◌ {A = ℕ} 0 1 = cc (answer_of_lem _ _ h) in absurd (omega arith)
-      go (Judge.Both p q) f h =
+      go (Err (Untreateds.Refused r)) f h = let x : ◌≡◌ {A = ℕ} 0 1 = cc (answer_of_lem _ _ h) in absurd (omega arith)
+      go (Err (Untreateds.Apart r)) f h = let x : ◌≡◌ {A = ℕ} 0 1 = cc (answer_of_lem _ _ h) in absurd (omega arith)
+      go (Ok (p , q)) f h =
           let k = both_known y z s.first s.second 1 2 p q f in
           record {
             mapped₁ = k.mapped₁;

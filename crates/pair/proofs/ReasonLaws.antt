@@ -1,4 +1,7 @@
 -- Each reason is given exactly when the wish says, for every two records whose call is not refused.
+use Rattle.std.specs.Prelude.{Result, Ok, Err}
+use Rattle.refusal.specs.declared.Refusal.{Refusal}
+use Rattle.pair_judgement.specs.declared.Untreated.TheVariants as Untreateds
 use Prim.Native.Nat.{ℕ}
 use mathlib.Core.Path.{◌≡◌, refl, sym, subst}
 use mathlib.Core.List.{List, [], ◌∷◌}
@@ -13,12 +16,9 @@ use Rattle.fields.specs.Position.{position_of, same_id}
 use Rattle.fields.proofs.PositionLaws.{same_id_equal, equal_same_id}
 use Rattle.strategy.specs.declared.Strategies.{Strategies}
 use Rattle.cigar.specs.declared.Extent.{Extent}
-use Rattle.cigar.specs.declared.Span.{Span}
-use Rattle.cigar.specs.declared.Span.TheVariants as Spans
 use Rattle.positions.specs.Step.{State}
 use Rattle.pair_merge.specs.Shared.{shared}
 use Rattle.pair_judgement.specs.declared.Reason.TheVariants.{Unmapped, ReferencesDiffer, NegativePosition, NoReferenceLength, NoSharedPosition}
-use Rattle.pair_judgement.specs.declared.Judged.TheVariants as Judge
 use Rattle.pair_judgement.specs.Judgement.{on_span, on_position, span_in, mapped_of, judged_of}
 use Rattle.pair_judgement.specs.Reason.{covers_none}
 use Rattle.pair_judgement.proofs.TreatLaws.{spanned, none_covered, some_covered}
@@ -64,8 +64,8 @@ module _ (s : State) where
     not_here {u} e = subst (λ (v : Outcome). NotRefused v) (sym e) n
 
     -- both on one reference, and each record passed step 7
-    given_reached : (al : Aligned a b) (x t : Extent) → span_in y a al.pos₁ 1 ≡ Spans.Covers x → span_in z b al.pos₂ 2 ≡ Spans.Covers t
-        → on_judged w y z s (Judge.Both x t) ≡ o → Given o.answer
+    given_reached : (al : Aligned a b) (x t : Extent) → span_in y a al.pos₁ 1 ≡ Ok x → span_in z b al.pos₂ 2 ≡ Ok t
+        → on_judged w y z s (Ok (x , t)) ≡ o → Given o.answer
     given_reached al x t f g e = go (covers_none x) (covers_none t) refl refl e
       where
         go : (c d : Bool) → covers_none x ≡ c → covers_none t ≡ d
@@ -77,20 +77,20 @@ module _ (s : State) where
             (given_answer al (⊎_elim (some_covered (spanned y a _ 1 x f) p) (some_covered (spanned z b _ 2 t g) q))
             (shared y z x.start t.start a b))
 
-    given_spans : (al : Aligned a b) → on_judged w y z s (on_span (span_in y a al.pos₁ 1) (λ x. on_span (span_in z b al.pos₂ 2) (λ t. Judge.Both x t))) ≡ o → Given o.answer
+    given_spans : (al : Aligned a b) → on_judged w y z s (on_span (span_in y a al.pos₁ 1) (λ x. on_span (span_in z b al.pos₂ 2) (λ t. Ok (x , t)))) ≡ o → Given o.answer
     given_spans al e = one (span_in y a al.pos₁ 1) refl e
       where
-        two : (x : Extent) → span_in y a al.pos₁ 1 ≡ Spans.Covers x → (v : Span) → span_in z b al.pos₂ 2 ≡ v → on_judged w y z s (on_span v (λ t. Judge.Both x t)) ≡ o → Given o.answer
-        two x f (Spans.Covers t) g h = given_reached al x t f g h
-        two x f (Spans.Refused r) g h = absurd (not_here h r refl)
+        two : (x : Extent) → span_in y a al.pos₁ 1 ≡ Ok x → (v : Result Extent Refusal) → span_in z b al.pos₂ 2 ≡ v → on_judged w y z s (on_span v (λ t. Ok (x , t))) ≡ o → Given o.answer
+        two x f (Ok t) g h = given_reached al x t f g h
+        two x f (Err r) g h = absurd (not_here h r refl)
 
-        one : (u : Span) → span_in y a al.pos₁ 1 ≡ u → on_judged w y z s (on_span u (λ x. on_span (span_in z b al.pos₂ 2) (λ t. Judge.Both x t))) ≡ o → Given o.answer
-        one (Spans.Covers x) f h = two x f (span_in z b al.pos₂ 2) refl h
-        one (Spans.Refused r) f h = absurd (not_here h r refl)
+        one : (u : Result Extent Refusal) → span_in y a al.pos₁ 1 ≡ u → on_judged w y z s (on_span u (λ x. on_span (span_in z b al.pos₂ 2) (λ t. Ok (x , t)))) ≡ o → Given o.answer
+        one (Ok x) f h = two x f (span_in z b al.pos₂ 2) refl h
+        one (Err r) f h = absurd (not_here h r refl)
 
     -- positions
     given_placed : (m : Mapped a b) (same : (header a).ref_id ≡ (header b).ref_id) (u v : ℤ) → (header a).pos ≡ u → (header b).pos ≡ v
-        → on_judged w y z s (on_position (position_of u) (λ p. on_position (position_of v) (λ q. on_span (span_in y a p 1) (λ x. on_span (span_in z b q 2) (λ t. Judge.Both x t))))) ≡ o
+        → on_judged w y z s (on_position (position_of u) (λ p. on_position (position_of v) (λ q. on_span (span_in y a p 1) (λ x. on_span (span_in z b q 2) (λ t. Ok (x , t)))))) ≡ o
         → Given o.answer
     given_placed m same (pos p) (pos q) f g e =
         given_spans (record { mapped₁ = m.first; mapped₂ = m.second; reference = same; pos₁ = p; pos₂ = q; placed₁ = f; placed₂ = g }) e
@@ -102,9 +102,9 @@ module _ (s : State) where
     given e = go (has_bit (header a).flags unmapped) (has_bit (header b).flags unmapped) (same_id (header a).ref_id (header b).ref_id) refl refl refl e
       where
         go : (t u v : Bool) → has_bit (header a).flags unmapped ≡ t → has_bit (header b).flags unmapped ≡ u → same_id (header a).ref_id (header b).ref_id ≡ v
-            → on_judged w y z s (cond (t || u) (Judge.Apart Unmapped) (cond v
-            (on_position (position_of (header a).pos) (λ p. on_position (position_of (header b).pos) (λ q. on_span (span_in y a p 1) (λ x. on_span (span_in z b q 2) (λ t. Judge.Both x t)))))
-            (Judge.Apart ReferencesDiffer))) ≡ o → Given o.answer
+            → on_judged w y z s (cond (t || u) (Err (Untreateds.Apart Unmapped)) (cond v
+            (on_position (position_of (header a).pos) (λ p. on_position (position_of (header b).pos) (λ q. on_span (span_in y a p 1) (λ x. on_span (span_in z b q 2) (λ t. Ok (x , t))))))
+            (Err (Untreateds.Apart ReferencesDiffer)))) ≡ o → Given o.answer
         go true u v f g h i = answer_as i (by_unmapped (inl f))
         go false true v f g h i = answer_as i (by_unmapped (inr g))
         go false false true f g h i = given_placed (record { first = f; second = g }) (same_id_equal _ _ h) (header a).pos (header b).pos refl refl i

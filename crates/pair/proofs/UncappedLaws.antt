@@ -1,4 +1,7 @@
 -- With the cap 93 the pair call is the one of document 01, which knows no cap.
+use Rattle.std.specs.Prelude.{Result, Ok, Err}
+use Rattle.refusal.specs.declared.Refusal.{Refusal}
+use Rattle.pair_judgement.specs.declared.Untreated.TheVariants as Untreateds
 use Prim.Native.Nat.{ℕ}
 use mathlib.Core.Path.{◌≡◌, refl, ap, ◌∙◌}
 use mathlib.Core.Bool.{Bool, true, false, cond}
@@ -6,8 +9,6 @@ use mathlib.Core.List.{List, [], ◌∷◌}
 use Rattle.refusal.specs.declared.Refusal.TheVariants.{Count}
 use Rattle.fields.specs.declared.Layout.{Layout}
 use Rattle.fields.specs.declared.RefPos.{RefPos}
-use Rattle.fields.specs.declared.Checked.{Checked}
-use Rattle.fields.specs.declared.Checked.TheVariants.{Good, Bad}
 use Rattle.fields.specs.Check.{check_of}
 use Rattle.bases.specs.Base.{base_at, quality_at}
 use Rattle.stats.specs.Counts.{full}
@@ -19,9 +20,7 @@ use Rattle.strategy.specs.Rule.{qual_by, treated}
 use Rattle.positions.specs.Step.{State, job}
 use Rattle.positions.specs.Treating.{step, steps}
 use Rattle.pair_merge.specs.Shared.{shared, merged}
-use Rattle.pair_judgement.specs.declared.Judged.{Judged}
-use Rattle.pair_judgement.specs.declared.Judged.TheVariants as Judge
-use Rattle.pair_judgement.specs.Judgement.{judged_of}
+use Rattle.pair_judgement.specs.Judgement.{judged_of, Judged}
 use Rattle.pair_judgement.specs.Reason.{lengthless}
 use Rattle.pair.specs.declared.Answer.TheVariants as Answers
 use Rattle.pair.specs.Pair.{Outcome, outcome, answer_of, on_reference, on_judged, on_good, records_of, pair_of}
@@ -61,13 +60,13 @@ module _ (m : AgreementStrategy) (k : DisagreementStrategy) where
         ap (outcome (answer_of l)) (steps_same l s)
 
     judged_same : (s : State) (j : Judged) → on_judged fully y z s j ≡ Uncapped.on_judged m k y z s j
-    judged_same s (Judge.Refused r) = refl
-    judged_same s (Judge.Apart r) = refl
-    judged_same s (Judge.Both p q) = reference_same s p.start q.start (lengthless p q)
+    judged_same s (Err (Untreateds.Refused r)) = refl
+    judged_same s (Err (Untreateds.Apart r)) = refl
+    judged_same s (Ok (p , q)) = reference_same s p.start q.start (lengthless p q)
 
-  good_same : (c : Checked) (s : State) (f g : Layout → Outcome) → ((y : Layout) → f y ≡ g y) → on_good c s f ≡ on_good c s g
-  good_same (Good y) s f g h = h y
-  good_same (Bad r) s f g h = refl
+  good_same : (c : Result Layout Refusal) (s : State) (f g : Layout → Outcome) → ((y : Layout) → f y ≡ g y) → on_good c s f ≡ on_good c s g
+  good_same (Ok y) s f g h = h y
+  good_same (Err r) s f g h = refl
 
   records_same : (s : State) → records_of fully s 1 2 ≡ Uncapped.records_of m k s
   unfolding records_of

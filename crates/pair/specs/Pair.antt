@@ -1,11 +1,11 @@
 -- The pair call, in the document's order of judgement.
-use Rattle.std.specs.Prelude.{ℕ, List, [], ◌∷◌, Bool, cond}
+use Rattle.refusal.specs.declared.Refusal.{Refusal}
+use Rattle.pair_judgement.specs.declared.Untreated.TheVariants as Untreateds
+use Rattle.std.specs.Prelude.{ℕ, List, [], ◌∷◌, Bool, cond, Result, Ok, Err}
 use Rattle.refusal.specs.declared.Refusal.TheVariants.{Count, Cap}
 use Rattle.refusal.specs.Table.{code_of}
 use Rattle.fields.specs.declared.Layout.{Layout}
 use Rattle.fields.specs.declared.RefPos.{RefPos}
-use Rattle.fields.specs.declared.Checked.{Checked}
-use Rattle.fields.specs.declared.Checked.TheVariants.{Good, Bad}
 use Rattle.fields.specs.Check.{check_of}
 use Rattle.stats.specs.Counts.{full}
 use Rattle.strategy.specs.declared.Strategies.{Strategies}
@@ -13,9 +13,7 @@ use Rattle.strategy.specs.Cap.{cap_outside}
 use Rattle.positions.specs.Step.{State, job}
 use Rattle.pair_merge.specs.Shared.{shared, merged}
 use Rattle.pair_judgement.specs.declared.Reason.TheVariants.{NoReferenceLength, NoSharedPosition}
-use Rattle.pair_judgement.specs.declared.Judged.{Judged}
-use Rattle.pair_judgement.specs.declared.Judged.TheVariants as Judge
-use Rattle.pair_judgement.specs.Judgement.{judged_of}
+use Rattle.pair_judgement.specs.Judgement.{judged_of, Judged}
 use Rattle.pair_judgement.specs.Reason.{lengthless}
 use Rattle.pair.specs.declared.Answer.{Answer}
 use Rattle.pair.specs.declared.Answer.TheVariants as Answers
@@ -39,17 +37,17 @@ on_reference w y z s p q none =
     cond none (outcome (Answers.NoOverlap NoReferenceLength) s) (outcome (answer_of (shared y z p q s.first s.second)) (merged (job w y z) p q s))
 
 abbrev pub on_judged : Strategies → Layout → Layout → State → Judged → Outcome
-on_judged w y z s (Judge.Refused r) = outcome (Answers.Refused r) s
-on_judged w y z s (Judge.Apart r) = outcome (Answers.NoOverlap r) s
-on_judged w y z s (Judge.Both p q) = on_reference w y z s p.start q.start (lengthless p q)
+on_judged w y z s (Err (Untreateds.Refused r)) = outcome (Answers.Refused r) s
+on_judged w y z s (Err (Untreateds.Apart r)) = outcome (Answers.NoOverlap r) s
+on_judged w y z s (Ok (p , q)) = on_reference w y z s p.start q.start (lengthless p q)
 
-abbrev pub refused_answer : Checked → Answer
-refused_answer (Good y) = Answers.Overlap
-refused_answer (Bad r) = Answers.Refused r
+abbrev pub refused_answer : Result Layout Refusal → Answer
+refused_answer (Ok y) = Answers.Overlap
+refused_answer (Err r) = Answers.Refused r
 
-abbrev pub on_good : Checked → State → (Layout → Outcome) → Outcome
-on_good (Good y) s rest = rest y
-on_good (Bad r) s rest = outcome (Answers.Refused r) s
+abbrev pub on_good : Result Layout Refusal → State → (Layout → Outcome) → Outcome
+on_good (Ok y) s rest = rest y
+on_good (Err r) s rest = outcome (Answers.Refused r) s
 
 -- step 3, first record before second; then the rest. A refusal names the first record by i, the second by j
 unfoldable pub records_of : Strategies → State → ℕ → ℕ → Outcome

@@ -1,6 +1,7 @@
 -- The pair call as document 01 has it, which knows no cap: bases that agree under Consensus get the smaller of a + b and 93. Each definition
 -- is that of the pair call without the cap; it is here so that a law can say that the pair call with the cap 93 is this one.
-use Rattle.std.specs.Prelude.{ℕ, ◌+◌, min, max, Bool, cond, ◌||◌, List, [], ◌∷◌, eqb}
+use Rattle.pair_judgement.specs.declared.Untreated.TheVariants as Untreateds
+use Rattle.std.specs.Prelude.{ℕ, ◌+◌, min, max, Bool, cond, ◌||◌, List, [], ◌∷◌, eqb, Ok, Err}
 use Rattle.refusal.specs.declared.Refusal.TheVariants.{Count}
 use Rattle.fields.specs.declared.Layout.{Layout}
 use Rattle.fields.specs.declared.RefPos.{RefPos}
@@ -17,9 +18,7 @@ use Rattle.strategy.specs.Rule.{out, agreed_to, differed}
 use Rattle.positions.specs.Step.{State, state}
 use Rattle.pair_merge.specs.Shared.{shared}
 use Rattle.pair_judgement.specs.declared.Reason.TheVariants.{NoReferenceLength}
-use Rattle.pair_judgement.specs.declared.Judged.{Judged}
-use Rattle.pair_judgement.specs.declared.Judged.TheVariants as Judge
-use Rattle.pair_judgement.specs.Judgement.{judged_of}
+use Rattle.pair_judgement.specs.Judgement.{judged_of, Judged}
 use Rattle.pair_judgement.specs.Reason.{lengthless}
 use Rattle.pair.specs.declared.Answer.TheVariants as Answers
 use Rattle.pair.specs.Pair.{Outcome, outcome, answer_of, on_good}
@@ -51,9 +50,9 @@ on_reference m k y z s p q none =
     (outcome (answer_of (shared y z p q s.first s.second)) (steps m k y z (shared y z p q s.first s.second) s))
 
 abbrev pub on_judged : AgreementStrategy → DisagreementStrategy → Layout → Layout → State → Judged → Outcome
-on_judged m k y z s (Judge.Refused r) = outcome (Answers.Refused r) s
-on_judged m k y z s (Judge.Apart r) = outcome (Answers.NoOverlap r) s
-on_judged m k y z s (Judge.Both p q) = on_reference m k y z s p.start q.start (lengthless p q)
+on_judged m k y z s (Err (Untreateds.Refused r)) = outcome (Answers.Refused r) s
+on_judged m k y z s (Err (Untreateds.Apart r)) = outcome (Answers.NoOverlap r) s
+on_judged m k y z s (Ok (p , q)) = on_reference m k y z s p.start q.start (lengthless p q)
 
 abbrev pub records_of : AgreementStrategy → DisagreementStrategy → State → Outcome
 records_of m k s = on_good (check_of s.first 1) s (λ y. on_good (check_of s.second 2) s (λ z. on_judged m k y z s (judged_of y z s.first s.second 1 2)))

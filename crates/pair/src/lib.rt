@@ -7,8 +7,8 @@ ghost use Rattle.positions.specs.Step.{state};
 ghost use Rattle.pair_judgement.specs.Ready.{Ready};
 ghost use Rattle.pair.specs.Pair.{on_judged, refused_answer, outcome, capped_of, pair_of, answer_code};
 
-use fields::Checked;
-use pair_judgement::{Judged, Placed, Reason};
+use fields::Layout;
+use pair_judgement::{Placed, Reason, Untreated};
 use refusal::Refusal;
 use stats::CorrectionStats;
 use strategy::Strategies;
@@ -43,12 +43,12 @@ impl Answer {
 }
 
 // A record that was not good, as the call's answer.
-pub fn refused(c: Checked) -> Answer
+pub fn refused(c: Result<Layout, Refusal>) -> Answer
     ensures { result ≡ refused_answer c }
 {
     match c {
-        Checked::Good(_) => Answer::Overlap,
-        Checked::Bad(r) => Answer::Refused(r),
+        Ok(_) => Answer::Overlap,
+        Err(r) => Answer::Refused(r),
     }
 }
 
@@ -62,7 +62,7 @@ fn call_both(
     stats: CorrectionStats,
 ) -> Called
     requires { Ready a.layout b.layout a.extent b.extent first.old second.old × Room stats 131072 }
-    ensures { outcome result.answer (state first.new second.new result.stats) ≡ on_judged w a.layout b.layout (state first.old second.old stats) (Judged.Both a.extent b.extent) }
+    ensures { outcome result.answer (state first.new second.new result.stats) ≡ on_judged w a.layout b.layout (state first.old second.old stats) (Ok (a.extent , b.extent)) }
 {
     let met = pair_judgement::treat(w, first, second, a, b, stats);
     let after = met.stats;
@@ -89,14 +89,14 @@ fn call_capped(first: &mut [u8], second: &mut [u8], w: Strategies, stats: Correc
         };
     }
     let checked1 = fields::check_record(first, 1);
-    let Checked::Good(y) = checked1 else {
+    let Ok(y) = checked1 else {
         return Called {
             answer: refused(checked1),
             stats,
         };
     };
     let checked2 = fields::check_record(second, 2);
-    let Checked::Good(z) = checked2 else {
+    let Ok(z) = checked2 else {
         return Called {
             answer: refused(checked2),
             stats,
@@ -104,15 +104,15 @@ fn call_capped(first: &mut [u8], second: &mut [u8], w: Strategies, stats: Correc
     };
     let judged = pair_judgement::judge(first, second, y, z, 1, 2);
     match judged {
-        Judged::Refused(r) => Called {
+        Err(Untreated::Refused(r)) => Called {
             answer: Answer::Refused(r),
             stats,
         },
-        Judged::Apart(r) => Called {
+        Err(Untreated::Apart(r)) => Called {
             answer: Answer::NoOverlap(r),
             stats,
         },
-        Judged::Both(p, q) => {
+        Ok((p, q)) => {
             let a = Placed {
                 layout: y,
                 extent: p,

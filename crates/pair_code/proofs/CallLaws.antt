@@ -1,4 +1,5 @@
 -- The call, by its cases.
+use Rattle.std.specs.Prelude.{Result, Ok, Err}
 use Prim.Native.Nat.{ℕ}
 use mathlib.Core.Path.{◌≡◌, sym, ap, ◌∙◌}
 use mathlib.Core.List.{List}
@@ -10,8 +11,6 @@ use Rattle.refusal.specs.Table.{code_of}
 use Rattle.stats.specs.declared.CorrectionStats.{CorrectionStats}
 use Rattle.stats.specs.Tally.{counts_at, with_counts}
 use Rattle.strategy.specs.declared.Strategies.{Strategies}
-use Rattle.strategy.specs.declared.Numbered.{Numbered}
-use Rattle.strategy.specs.declared.Numbered.TheVariants as Numbers
 use Rattle.strategy.specs.Number.{numbered_of}
 use Rattle.positions.specs.Step.{state}
 use Rattle.pair_judgement.specs.declared.Reason.{Reason}
@@ -24,12 +23,12 @@ module _ (a b : List ℕ) (m k cap : ℕ) (c : List ℕ) where
   unfolding call_of
   slice_wrong n e h = rw (ne_eqb (length c) 32 h) (ap (λ (x : ℕ). returned x a b c) e)
 
-  module _ (size : length c ≡ 32) (numbered : Numbered) (is : numbered ≡ numbered_of m k cap) where
-    pub numbers_wrong : (n : ℕ) (r : Refusal) → n ≡ numbered_code numbered → numbered ≡ Numbers.Refused r → returned n a b c ≡ call_of a b m k cap c
+  module _ (size : length c ≡ 32) (numbered : Result Strategies Refusal) (is : numbered ≡ numbered_of m k cap) where
+    pub numbers_wrong : (n : ℕ) (r : Refusal) → n ≡ numbered_code numbered → numbered ≡ Err r → returned n a b c ≡ call_of a b m k cap c
     unfolding call_of
     numbers_wrong n r e f = rw (eq-eqb (length c) 32 size, sym is ∙ f) (ap (λ (x : ℕ). returned x a b c) (e ∙ ap numbered_code f))
 
-    pub called_as : (w : Strategies) (g : CorrectionStats) (o : Outcome) → numbered ≡ Numbers.Are w → g ≡ counts_at c 0 → o ≡ pair_of w (state a b g) → called c o ≡ call_of a b m k cap c
+    pub called_as : (w : Strategies) (g : CorrectionStats) (o : Outcome) → numbered ≡ Ok w → g ≡ counts_at c 0 → o ≡ pair_of w (state a b g) → called c o ≡ call_of a b m k cap c
     unfolding call_of
     called_as w g o f e h =
         rw (eq-eqb (length c) 32 size, sym is ∙ f) (ap (called c) (h ∙ ap (λ (x : CorrectionStats). pair_of w (state a b x)) e))

@@ -1,11 +1,11 @@
 -- The pair call by numbers and bytes: its answer and every byte of the three slices.
-use Rattle.std.specs.Prelude.{ℕ, List, cond, length, eqb}
+use Rattle.strategy.specs.declared.Strategies.{Strategies}
+use Rattle.refusal.specs.declared.Refusal.{Refusal}
+use Rattle.std.specs.Prelude.{ℕ, List, cond, length, eqb, Result, Ok, Err}
 use Rattle.refusal.specs.declared.Refusal.TheVariants.{CountsSlice}
 use Rattle.refusal.specs.Table.{code_of}
 use Rattle.stats.specs.declared.CorrectionStats.{CorrectionStats}
 use Rattle.stats.specs.Tally.{counts_at, with_counts}
-use Rattle.strategy.specs.declared.Numbered.{Numbered}
-use Rattle.strategy.specs.declared.Numbered.TheVariants as Numbers
 use Rattle.strategy.specs.Number.{numbered_of}
 use Rattle.positions.specs.Step.{state}
 use Rattle.pair.specs.declared.Answer.{Answer}
@@ -32,13 +32,13 @@ abbrev pub called : List ℕ → Outcome → Returned
 called c o = returned (answer_code o.answer) o.after.first o.after.second (counts_after o.answer c o.after.stats)
 
 -- the answer for numbers that are refused
-abbrev pub numbered_code : Numbered → ℕ
-numbered_code (Numbers.Are w) = 1
-numbered_code (Numbers.Refused r) = code_of r
+abbrev pub numbered_code : Result Strategies Refusal → ℕ
+numbered_code (Ok w) = 1
+numbered_code (Err r) = code_of r
 
-abbrev pub with_numbers : List ℕ → List ℕ → List ℕ → Numbered → Returned
-with_numbers a b c (Numbers.Are w) = called c (pair_of w (state a b (counts_at c 0)))
-with_numbers a b c (Numbers.Refused r) = returned (code_of r) a b c
+abbrev pub with_numbers : List ℕ → List ℕ → List ℕ → Result Strategies Refusal → Returned
+with_numbers a b c (Ok w) = called c (pair_of w (state a b (counts_at c 0)))
+with_numbers a b c (Err r) = returned (code_of r) a b c
 
 -- the counts slice, then the strategy numbers and the cap, then the pair call
 unfoldable pub call_of : List ℕ → List ℕ → ℕ → ℕ → ℕ → List ℕ → Returned

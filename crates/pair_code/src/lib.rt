@@ -7,18 +7,18 @@ ghost use Rattle.pair_code.specs.Call.{numbered_code, returned, call_of};
 
 use pair::Answer;
 use refusal::Refusal;
-use strategy::Numbered;
+use strategy::Strategies;
 
 // How many bytes the four counts take.
 const COUNTS: usize = 32;
 
 // The answer for numbers that are refused.
-fn misnumbered(n: Numbered) -> u32
+fn misnumbered(n: Result<Strategies, Refusal>) -> u32
     ensures { result ≡ numbered_code n }
 {
     match n {
-        Numbered::Are(_) => 1,
-        Numbered::Refused(r) => r.code(),
+        Ok(_) => 1,
+        Err(r) => r.code(),
     }
 }
 
@@ -38,7 +38,7 @@ pub fn call(
         return Refusal::CountsSlice.code();
     }
     let numbered = strategy::by_number(agreement, disagreement, cap);
-    let Numbered::Are(w) = numbered else {
+    let Ok(w) = numbered else {
         return misnumbered(numbered);
     };
     let stats = stats::counts_at(counts, 0);

@@ -1,4 +1,7 @@
 -- What is known of two records that were judged to be on one reference, and what treating them asks.
+use Rattle.std.specs.Prelude.{Result, Ok, Err, Some, None}
+use Rattle.refusal.specs.declared.Refusal.{Refusal}
+use Rattle.pair_judgement.specs.declared.Untreated.TheVariants as Untreateds
 use Prim.Native.Nat.{ℕ, ◌+◌, ◌*◌, ◌≤◌, ◌<◌}
 use mathlib.Core.Path.{◌≡◌, refl, sym, ap, ◌∙◌}
 use mathlib.Core.List.{List, []}
@@ -11,16 +14,10 @@ use lib.ListN.{length}
 use borrow.Author.Tests.{le-ltb, eqb-true, eqb-false}
 use Rattle.fields.specs.declared.Layout.{Layout}
 use Rattle.fields.specs.declared.RefPos.{RefPos}
-use Rattle.fields.specs.declared.Position.{Position}
-use Rattle.fields.specs.declared.Position.TheVariants.{At, Unplaced}
 use Rattle.fields.specs.Flag.{has_bit, unmapped}
 use Rattle.fields.specs.Layout.{header}
 use Rattle.fields.specs.Position.{position_of, same_id}
 use Rattle.fields.specs.Sound.{Sound}
-use Rattle.cigar.specs.declared.Operations.{Operations}
-use Rattle.cigar.specs.declared.Operations.TheVariants as Ops
-use Rattle.cigar.specs.declared.Span.{Span}
-use Rattle.cigar.specs.declared.Span.TheVariants as Spans
 use Rattle.cigar.specs.Operation.{read_sum, ref_sum, ops_in}
 use Rattle.cigar.specs.declared.Extent.{Extent}
 use Rattle.cigar.specs.Found.{off_at, of_bases, base_on}
@@ -35,30 +32,28 @@ use Rattle.pair_merge.specs.Shared.{base_in, pairs, shared, merged, Walked}
 use Rattle.pair_merge.proofs.PairLaws.{none_left, none_in}
 use Rattle.pair_judgement.specs.declared.Reason.{Reason}
 use Rattle.pair_judgement.specs.declared.Reason.TheVariants.{Unmapped, ReferencesDiffer}
-use Rattle.pair_judgement.specs.declared.Judged.{Judged}
-use Rattle.pair_judgement.specs.declared.Judged.TheVariants as Judge
-use Rattle.pair_judgement.specs.Judgement.{on_uses, on_span, on_position, span_in, mapped_of, judged_of}
+use Rattle.pair_judgement.specs.Judgement.{on_uses, on_span, on_position, span_in, mapped_of, judged_of, Judged}
 use Rattle.pair_judgement.specs.Reason.{covers_none, lengthless}
 use Rattle.pair_judgement.specs.Ready.{Ready, TreatedTo}
 
 -- ---- each step was passed
-pub on_uses_lem : (o : Operations) (f : ℕ → Span) (s : Extent) → on_uses o f ≡ Spans.Covers s → (n : ℕ) × ((o ≡ Ops.Uses n) × (f n ≡ Spans.Covers s))
-on_uses_lem (Ops.Uses n) f s e = (n, (refl, e))
-on_uses_lem (Ops.Refused r) f s e = let z : ◌≡◌ {A = ℕ} 0 1 = cc in absurd (omega arith)
+pub on_uses_lem : (o : Result ℕ Refusal) (f : ℕ → Result Extent Refusal) (s : Extent) → on_uses o f ≡ Ok s → (n : ℕ) × ((o ≡ Ok n) × (f n ≡ Ok s))
+on_uses_lem (Ok n) f s e = (n, (refl, e))
+on_uses_lem (Err r) f s e = let z : ◌≡◌ {A = ℕ} 0 1 = cc in absurd (omega arith)
 
-on_span_lem : (x : Span) (f : Extent → Judged) (p q : Extent) → on_span x f ≡ Judge.Both p q → (s : Extent) × ((x ≡ Spans.Covers s) × (f s ≡ Judge.Both p q))
-on_span_lem (Spans.Covers s) f p q e = (s, (refl, e))
-on_span_lem (Spans.Refused r) f p q e = let z : ◌≡◌ {A = ℕ} 0 1 = cc in absurd (omega arith)
+on_span_lem : (x : Result Extent Refusal) (f : Extent → Judged) (p q : Extent) → on_span x f ≡ Ok (p , q) → (s : Extent) × ((x ≡ Ok s) × (f s ≡ Ok (p , q)))
+on_span_lem (Ok s) f p q e = (s, (refl, e))
+on_span_lem (Err r) f p q e = let z : ◌≡◌ {A = ℕ} 0 1 = cc in absurd (omega arith)
 
-on_placed : (x : Position) (f : ℕ → Judged) (p q : Extent) → on_position x f ≡ Judge.Both p q → (n : ℕ) × ((x ≡ At n) × (f n ≡ Judge.Both p q))
-on_placed (At n) f p q e = (n, (refl, e))
-on_placed Unplaced f p q e = let z : ◌≡◌ {A = ℕ} 0 1 = cc in absurd (omega arith)
+on_placed : (x : Option ℕ) (f : ℕ → Judged) (p q : Extent) → on_position x f ≡ Ok (p , q) → (n : ℕ) × ((x ≡ Some n) × (f n ≡ Ok (p , q)))
+on_placed (Some n) f p q e = (n, (refl, e))
+on_placed None f p q e = let z : ◌≡◌ {A = ℕ} 0 1 = cc in absurd (omega arith)
 
-on_true : (t : Bool) (x : Judged) (r : Reason) (p q : Extent) → cond t x (Judge.Apart r) ≡ Judge.Both p q → (t ≡ true) × (x ≡ Judge.Both p q)
+on_true : (t : Bool) (x : Judged) (r : Reason) (p q : Extent) → cond t x (Err (Untreateds.Apart r)) ≡ Ok (p , q) → (t ≡ true) × (x ≡ Ok (p , q))
 on_true true x r p q e = (refl, e)
 on_true false x r p q e = let z : ◌≡◌ {A = ℕ} 0 1 = cc in absurd (omega arith)
 
-on_neither : (t u : Bool) (r : Reason) (x : Judged) (p q : Extent) → cond (t || u) (Judge.Apart r) x ≡ Judge.Both p q → (t ≡ false) × (u ≡ false) × (x ≡ Judge.Both p q)
+on_neither : (t u : Bool) (r : Reason) (x : Judged) (p q : Extent) → cond (t || u) (Err (Untreateds.Apart r)) x ≡ Ok (p , q) → (t ≡ false) × (u ≡ false) × (x ≡ Ok (p , q))
 on_neither true u r x p q e = let z : ◌≡◌ {A = ℕ} 0 1 = cc in absurd (omega arith)
 on_neither false true r x p q e = let z : ◌≡◌ {A = ℕ} 0 1 = cc in absurd (omega arith)
 on_neither false false r x p q e = (refl, refl, e)
@@ -70,7 +65,7 @@ pub record Spanned (y : Layout) (s : List ℕ) (pos : ℕ) (p : Extent) : Type 0
   pub last : pos + ref_sum (ops_in y s) ≤ 2147483646
   pub read : 0 < y.count → read_sum (ops_in y s) ≤ y.count
 
-pub spanned : (y : Layout) (s : List ℕ) (pos place : ℕ) (p : Extent) → span_in y s pos place ≡ Spans.Covers p → Spanned y s pos p
+pub spanned : (y : Layout) (s : List ℕ) (pos place : ℕ) (p : Extent) → span_in y s pos place ≡ Ok p → Spanned y s pos p
 unfolding span_in
 spanned y s pos place p e =
     let u = on_uses_lem (operations_of y s place) (λ n. span_of pos n place) p e in
@@ -96,12 +91,12 @@ pub record Known (y z : Layout) (a b : List ℕ) (p q : Extent) : Type 0 where
   pub reference : same_id (header a).ref_id (header b).ref_id ≡ true
   pub pos₁ : ℕ
   pub pos₂ : ℕ
-  pub placed₁ : position_of (header a).pos ≡ At pos₁
-  pub placed₂ : position_of (header b).pos ≡ At pos₂
+  pub placed₁ : position_of (header a).pos ≡ Some pos₁
+  pub placed₂ : position_of (header b).pos ≡ Some pos₂
   pub span₁ : Spanned y a pos₁ p
   pub span₂ : Spanned z b pos₂ q
 
-pub both_known : (y z : Layout) (a b : List ℕ) (i j : ℕ) (p q : Extent) → judged_of y z a b i j ≡ Judge.Both p q → Known y z a b p q
+pub both_known : (y z : Layout) (a b : List ℕ) (i j : ℕ) (p q : Extent) → judged_of y z a b i j ≡ Ok (p , q) → Known y z a b p q
 unfolding judged_of mapped_of
 both_known y z a b i j p q e =
     let m = on_neither (has_bit (header a).flags unmapped) (has_bit (header b).flags unmapped) Unmapped _ p q e in
@@ -120,8 +115,8 @@ both_known y z a b i j p q e =
       pos₂ = n₂.0;
       placed₁ = n₁.1.0;
       placed₂ = n₂.1.0;
-      span₁ = spanned y a n₁.0 i p (s₁.1.0 ∙ ap Spans.Covers e₁);
-      span₂ = spanned z b n₂.0 j q (s₂.1.0 ∙ ap Spans.Covers e₂);
+      span₁ = spanned y a n₁.0 i p (s₁.1.0 ∙ ap Ok e₁);
+      span₂ = spanned z b n₂.0 j q (s₂.1.0 ∙ ap Ok e₂);
     }
 
 -- ---- without bases nothing is shared

@@ -1,5 +1,7 @@
 -- What is known of two records before they are treated, and of what treating them gives.
-use Rattle.std.specs.Prelude.{ℕ, ◌+◌, ◌≡◌, List, length}
+use Rattle.pair_judgement.specs.declared.Reason.{Reason}
+use Rattle.pair_judgement.specs.declared.Untreated.TheVariants as Untreateds
+use Rattle.std.specs.Prelude.{ℕ, ◌+◌, ◌≡◌, List, length, Result, Ok, Err}
 use Rattle.refusal.specs.declared.Refusal.{Refusal}
 use Rattle.fields.specs.declared.Layout.{Layout}
 use Rattle.fields.specs.declared.RefPos.{RefPos}
@@ -10,9 +12,6 @@ use Rattle.strategy.specs.declared.Strategies.{Strategies}
 use Rattle.positions.specs.declared.Job.{Job}
 use Rattle.positions.specs.Step.{State, job}
 use Rattle.pair_merge.specs.Shared.{shared, merged}
-use Rattle.pair_judgement.specs.declared.Judged.TheVariants as Judge
-use Rattle.pair_judgement.specs.declared.Where.{Where}
-use Rattle.pair_judgement.specs.declared.Where.TheVariants.{Apart, On}
 use Rattle.pair_judgement.specs.Judgement.{judged_of}
 
 -- two sound records that were judged to be on one reference
@@ -21,7 +20,7 @@ pub record Ready (y z : Layout) (p q : Extent) (a b : List ℕ) : Type 0 where
   pub second : Sound b z
   pub place₁ : ℕ
   pub place₂ : ℕ
-  pub both : judged_of y z a b place₁ place₂ ≡ Judge.Both p q
+  pub both : judged_of y z a b place₁ place₂ ≡ Ok (p , q)
 
 -- what treating them gives
 pub record TreatedTo (w : Job) (p q : RefPos) (s u : State) (n : ℕ) : Type 0 where
@@ -34,9 +33,9 @@ pub record Cleared (a b : List ℕ) : Type 0 where
   pub second : Sound b (layout_of b)
   pub place₁ : ℕ
   pub place₂ : ℕ
-  pub passed : (r : Refusal) → judged_of (layout_of a) (layout_of b) a b place₁ place₂ ≡ Judge.Refused r → ⊥
+  pub passed : (r : Refusal) → judged_of (layout_of a) (layout_of b) a b place₁ place₂ ≡ Err (Untreateds.Refused r) → ⊥
 
 -- what treating them gives, by where they lie: nothing is met of records apart
-abbrev pub TreatedAt : Where → Strategies → State → State → ℕ → Type 0
-TreatedAt (Apart r) w s u n = (u ≡ s) × (n ≡ 0)
-TreatedAt (On p q) w s u n = TreatedTo (job w (layout_of s.first) (layout_of s.second)) (record { 0 = p + 1 }) (record { 0 = q + 1 }) s u n
+abbrev pub TreatedAt : Result (ℕ × ℕ) Reason → Strategies → State → State → ℕ → Type 0
+TreatedAt (Err r) w s u n = (u ≡ s) × (n ≡ 0)
+TreatedAt (Ok (p , q)) w s u n = TreatedTo (job w (layout_of s.first) (layout_of s.second)) (record { 0 = p + 1 }) (record { 0 = q + 1 }) s u n

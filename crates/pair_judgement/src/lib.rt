@@ -14,8 +14,8 @@ ghost use Rattle.pair_judgement.specs.Judgement.{on_uses, on_span, span_in, judg
 ghost use Rattle.pair_judgement.specs.Ready.{Ready, TreatedTo, Cleared, TreatedAt};
 ghost use Rattle.pair_judgement.specs.Where.{misplaced, where_of, on_where};
 
-use cigar::{Extent, Operations, Span};
-use fields::{Layout, Position, RefPos};
+use cigar::Extent;
+use fields::{Layout, RefPos};
 use pair_merge::Met;
 use positions::Job;
 use refusal::Refusal;
@@ -33,21 +33,11 @@ pub enum Reason {
     NoSharedPosition,
 }
 
-// Two sound records judged: refused, apart for a reason, or both placed on one reference, each with the
-// positions that it covers.
+// Why two records are not treated: one is refused, or they are apart for a reason.
 #[derive(Clone, Copy)]
-pub enum Judged {
+pub enum Untreated {
     Refused(Refusal),
     Apart(Reason),
-    Both(Extent, Extent),
-}
-
-// Where two records lie: apart for what their headers say, or both on one reference at these
-// positions.
-#[derive(Clone, Copy)]
-pub enum Where {
-    Apart(Reason),
-    On(u32, u32),
 }
 
 impl Reason {
@@ -66,87 +56,87 @@ impl Reason {
 }
 
 // Where two mapped records lie of which one has a negative position: ids that differ come first.
-fn negative(first: &[u8], second: &[u8]) -> Where
+fn negative(first: &[u8], second: &[u8]) -> Result<(u32, u32), Reason>
     requires { (32 ≤ length first.now) × (32 ≤ length second.now) }
     ensures { result ≡ misplaced (same_id (header first.now).ref_id (header second.now).ref_id) }
 {
     let same = fields::same_reference(first, second);
     if same {
-        return Where::Apart(Reason::NegativePosition);
+        return Err(Reason::NegativePosition);
     }
-    Where::Apart(Reason::ReferencesDiffer)
+    Err(Reason::ReferencesDiffer)
 }
 
 // Steps 4 to 6 of the order of judgement, with the reason, from the headers alone.
-pub fn locate(first: &[u8], second: &[u8]) -> Where
+pub fn locate(first: &[u8], second: &[u8]) -> Result<(u32, u32), Reason>
     requires { (32 ≤ length first.now) × (32 ≤ length second.now) }
     ensures { result ≡ where_of first.now second.now }
 {
     let f = fields::flags_of(first);
     if f.unmapped() {
-        return Where::Apart(Reason::Unmapped);
+        return Err(Reason::Unmapped);
     }
     let g = fields::flags_of(second);
     if g.unmapped() {
-        return Where::Apart(Reason::Unmapped);
+        return Err(Reason::Unmapped);
     }
     let at1 = fields::start_of(first);
-    let Position::At(pos1) = at1 else {
+    let Some(pos1) = at1 else {
         return negative(first, second);
     };
     let at2 = fields::start_of(second);
-    let Position::At(pos2) = at2 else {
+    let Some(pos2) = at2 else {
         return negative(first, second);
     };
     let same = fields::same_reference(first, second);
     if !same {
-        return Where::Apart(Reason::ReferencesDiffer);
+        return Err(Reason::ReferencesDiffer);
     }
-    Where::On(pos1, pos2)
+    Ok((pos1, pos2))
 }
 
 // Records apart by their headers, as what is judged of them.
-fn apart(at: Where) -> Judged
-    ensures { result ≡ on_where at (λ (p q : ℕ). Judged.Apart Reason.NoSharedPosition) }
+fn apart(at: Result<(u32, u32), Reason>) -> Result<(Extent, Extent), Untreated>
+    ensures { result ≡ on_where at (λ (p q : ℕ). Err (Untreated.Apart Reason.NoSharedPosition)) }
 {
     match at {
-        Where::Apart(r) => Judged::Apart(r),
-        Where::On(_, _) => Judged::Apart(Reason::NoSharedPosition),
+        Err(r) => Err(Untreated::Apart(r)),
+        Ok((_, _)) => Err(Untreated::Apart(Reason::NoSharedPosition)),
     }
 }
 
 // The refusal of operations, as the answer of a span.
-fn unspanned(o: Operations) -> Span
-    ensures { result ≡ on_uses o (λ (n : ℕ). Span.Covers (record { start = record { 0 = 0 }; end = record { 0 = 0 } })) }
+fn unspanned(o: Result<usize, Refusal>) -> Result<Extent, Refusal>
+    ensures { result ≡ on_uses o (λ (n : ℕ). Ok (record { start = record { 0 = 0 }; end = record { 0 = 0 } })) }
 {
     match o {
-        Operations::Uses(_) => Span::Covers(Extent {
+        Ok(_) => Ok(Extent {
             start: RefPos(0),
             end: RefPos(0),
         }),
-        Operations::Refused(r) => Span::Refused(r),
+        Err(r) => Err(r),
     }
 }
 
 // What the alignment of a sound record covers: its operations judged, then its end.
-pub fn span_of(s: &[u8], y: Layout, pos: u32, place: u16) -> Span
+pub fn span_of(s: &[u8], y: Layout, pos: u32, place: u16) -> Result<Extent, Refusal>
     requires { Sound s.now y }
     ensures { result ≡ span_in y s.now pos place }
 {
     let o = cigar::check_operations(s, y, place);
-    let Operations::Uses(uses) = o else {
+    let Ok(uses) = o else {
         return unspanned(o);
     };
     cigar::check_span(pos, uses, place)
 }
 
 // The refusal of a span, as what is judged of a pair.
-fn unplaced(p: Span) -> Judged
-    ensures { result ≡ on_span p (λ (s : Extent). Judged.Both s s) }
+fn unplaced(p: Result<Extent, Refusal>) -> Result<(Extent, Extent), Untreated>
+    ensures { result ≡ on_span p (λ (s : Extent). Ok (s , s)) }
 {
     match p {
-        Span::Covers(e) => Judged::Both(e, e),
-        Span::Refused(r) => Judged::Refused(r),
+        Ok(e) => Ok((e, e)),
+        Err(r) => Err(Untreated::Refused(r)),
     }
 }
 
@@ -165,23 +155,23 @@ pub fn unshared(p: Extent, q: Extent) -> Reason
 }
 
 // Two sound records judged by steps 4 to 7, from their bytes alone; a refusal names the place given.
-pub fn judge(first: &[u8], second: &[u8], y: Layout, z: Layout, place1: u16, place2: u16) -> Judged
+pub fn judge(first: &[u8], second: &[u8], y: Layout, z: Layout, place1: u16, place2: u16) -> Result<(Extent, Extent), Untreated>
     requires { Sound first.now y × Sound second.now z }
     ensures { result ≡ judged_of y z first.now second.now place1 place2 }
 {
     let at = locate(first, second);
-    let Where::On(pos1, pos2) = at else {
+    let Ok((pos1, pos2)) = at else {
         return apart(at);
     };
     let span1 = span_of(first, y, pos1, place1);
-    let Span::Covers(extent1) = span1 else {
+    let Ok(extent1) = span1 else {
         return unplaced(span1);
     };
     let span2 = span_of(second, z, pos2, place2);
-    let Span::Covers(extent2) = span2 else {
+    let Ok(extent2) = span2 else {
         return unplaced(span2);
     };
-    Judged::Both(extent1, extent2)
+    Ok((extent1, extent2))
 }
 
 // No shared position.
@@ -265,7 +255,7 @@ pub fn treat_judged(w: Strategies, first: &mut [u8], second: &mut [u8], g: Corre
     ensures { TreatedAt (where_of first.old second.old) w (state first.old second.old g) (state first.new second.new result.stats) result.shared }
 {
     let at = locate(first, second);
-    let Where::On(pos1, pos2) = at else {
+    let Ok((pos1, pos2)) = at else {
         return none_met(g);
     };
     let y = fields::layout_of(first);

@@ -1,4 +1,6 @@
 -- The answer by its steps, as the code meets them; and that it is the pair call's.
+use Rattle.std.specs.Prelude.{Result, Ok, Err}
+use Rattle.pair_judgement.specs.declared.Untreated.TheVariants as Untreateds
 use Prim.Native.Nat.{ℕ}
 use mathlib.Core.Path.{◌≡◌, refl, sym, ap, ◌∙◌}
 use mathlib.Core.List.{List, [], ◌∷◌}
@@ -9,13 +11,9 @@ use lib.ListN.{length}
 use borrow.Author.Tests.{ltb-true, ltb-false}
 use Rattle.refusal.specs.declared.Refusal.{Refusal}
 use Rattle.fields.specs.declared.Layout.{Layout}
-use Rattle.fields.specs.declared.Checked.{Checked}
-use Rattle.fields.specs.declared.Checked.TheVariants.{Good, Bad}
 use Rattle.fields.specs.Check.{check_of}
 use Rattle.fields.specs.Sound.{Sound}
 use Rattle.cigar.specs.declared.Extent.{Extent}
-use Rattle.cigar.specs.declared.Span.{Span}
-use Rattle.cigar.specs.declared.Span.TheVariants as Spans
 use Rattle.stats.specs.Counts.{full}
 use Rattle.strategy.specs.declared.Strategies.{Strategies}
 use Rattle.strategy.specs.Cap.{cap_outside}
@@ -23,11 +21,7 @@ use Rattle.positions.specs.Step.{State}
 use Rattle.pair_merge.specs.Shared.{shared}
 use Rattle.pair_judgement.specs.declared.Reason.{Reason}
 use Rattle.pair_judgement.specs.declared.Reason.TheVariants.{NoReferenceLength, NoSharedPosition}
-use Rattle.pair_judgement.specs.declared.Judged.{Judged}
-use Rattle.pair_judgement.specs.declared.Judged.TheVariants as Judge
-use Rattle.pair_judgement.specs.declared.Where.{Where}
-use Rattle.pair_judgement.specs.declared.Where.TheVariants as Wheres
-use Rattle.pair_judgement.specs.Judgement.{on_span, span_in, judged_of}
+use Rattle.pair_judgement.specs.Judgement.{on_span, span_in, judged_of, Judged}
 use Rattle.pair_judgement.specs.Reason.{lengthless, unshared_of}
 use Rattle.pair_judgement.specs.Where.{where_of}
 use Rattle.pair_judgement.specs.Ready.{Ready}
@@ -43,7 +37,7 @@ module _ (y z : Layout) (p q : Extent) (a b : List ℕ) (known : Ready y z p q a
   met = shared y z p.start q.start a b
 
   -- they do: then both have a length on the reference
-  pub some_shared : t ≡ true → Answers.Overlap ≡ on_both y z a b (Judge.Both p q)
+  pub some_shared : t ≡ true → Answers.Overlap ≡ on_both y z a b (Ok (p , q))
   some_shared f = go (lengthless p q) refl
     where
       k : Known y z a b p q
@@ -60,7 +54,7 @@ module _ (y z : Layout) (p q : Extent) (a b : List ℕ) (known : Ready y z p q a
       go false g = some met (sym e ∙ f)
 
   -- they don't
-  pub none_shared : (r : Reason) → r ≡ unshared_of p q → t ≡ false → Answers.NoOverlap r ≡ on_both y z a b (Judge.Both p q)
+  pub none_shared : (r : Reason) → r ≡ unshared_of p q → t ≡ false → Answers.NoOverlap r ≡ on_both y z a b (Ok (p , q))
   none_shared r h f = go (lengthless p q) h
     where
       none : (l : List (ℕ × ℕ)) → ltb 0 (length l) ≡ false → Answers.NoOverlap NoSharedPosition ≡ answer_of l
@@ -73,40 +67,40 @@ module _ (y z : Layout) (p q : Extent) (a b : List ℕ) (known : Ready y z p q a
 
 -- ---- the order of judgement
 module _ (a b : List ℕ) where
-  pub answer_first : (k : Checked) (r : Refusal) → k ≡ check_of a 1 → k ≡ Bad r → refused_answer k ≡ answer_on a b
+  pub answer_first : (k : Result Layout Refusal) (r : Refusal) → k ≡ check_of a 1 → k ≡ Err r → refused_answer k ≡ answer_on a b
   unfolding answer_on
   answer_first k r e f = ap refused_answer f ∙ rw (sym e ∙ f)
 
-  module _ (y : Layout) (good₁ : check_of a 1 ≡ Good y) where
-    pub answer_second : (k : Checked) (r : Refusal) → k ≡ check_of b 2 → k ≡ Bad r → refused_answer k ≡ answer_on a b
+  module _ (y : Layout) (good₁ : check_of a 1 ≡ Ok y) where
+    pub answer_second : (k : Result Layout Refusal) (r : Refusal) → k ≡ check_of b 2 → k ≡ Err r → refused_answer k ≡ answer_on a b
     unfolding answer_on
     answer_second k r e f = ap refused_answer f ∙ rw (good₁, sym e ∙ f)
 
-    pub answer_both : (z : Layout) → check_of b 2 ≡ Good z → on_both y z a b (judged_of y z a b 1 2) ≡ answer_on a b
+    pub answer_both : (z : Layout) → check_of b 2 ≡ Ok z → on_both y z a b (judged_of y z a b 1 2) ≡ answer_on a b
     unfolding answer_on
     answer_both z good₂ = rw (good₁, good₂)
 
 -- ---- steps 4 to 7, where both records are sound
 module _ (y z : Layout) (a b : List ℕ) where
   abbrev On : ℕ → ℕ → Type 0
-  On p q = where_of a b ≡ Wheres.On p q
+  On p q = where_of a b ≡ Ok (p , q)
 
-  pub answer_apart : (k : Where) (r : Reason) → k ≡ where_of a b → k ≡ Wheres.Apart r → Answers.NoOverlap r ≡ on_both y z a b (judged_of y z a b 1 2)
-  answer_apart k r e f = ap (on_both y z a b) (judged_as y z a b 1 2 k e (Wheres.Apart r) f)
+  pub answer_apart : (k : Result (ℕ × ℕ) Reason) (r : Reason) → k ≡ where_of a b → k ≡ Err r → Answers.NoOverlap r ≡ on_both y z a b (judged_of y z a b 1 2)
+  answer_apart k r e f = ap (on_both y z a b) (judged_as y z a b 1 2 k e (Err r) f)
 
   module _ (p q : ℕ) (on : On p q) where
-    pub first_answer : (x : Span) (r : Refusal) → x ≡ span_in y a p 1 → x ≡ Spans.Refused r → span_answer x ≡ on_both y z a b (judged_of y z a b 1 2)
-    first_answer x r e f = ap span_answer f ∙ ap (on_both y z a b) (sym (ap (λ (v : Span). on_span v (λ s. Judge.Both s s)) f) ∙ first_span y z a b 1 2 (where_of a b) refl p q on x r e f)
+    pub first_answer : (x : Result Extent Refusal) (r : Refusal) → x ≡ span_in y a p 1 → x ≡ Err r → span_answer x ≡ on_both y z a b (judged_of y z a b 1 2)
+    first_answer x r e f = ap span_answer f ∙ ap (on_both y z a b) (sym (ap (λ (v : Result Extent Refusal). on_span v (λ s. Ok (s , s))) f) ∙ first_span y z a b 1 2 (where_of a b) refl p q on x r e f)
 
-    pub second_answer : (s : Extent) (x u : Span) (r : Refusal) → x ≡ span_in y a p 1 → x ≡ Spans.Covers s → u ≡ span_in z b q 2 → u ≡ Spans.Refused r
+    pub second_answer : (s : Extent) (x u : Result Extent Refusal) (r : Refusal) → x ≡ span_in y a p 1 → x ≡ Ok s → u ≡ span_in z b q 2 → u ≡ Err r
         → span_answer u ≡ on_both y z a b (judged_of y z a b 1 2)
-    second_answer s x u r e f g h = ap span_answer h ∙ ap (on_both y z a b) (sym (ap (λ (v : Span). on_span v (λ t. Judge.Both t t)) h) ∙ second_span y z a b 1 2 (where_of a b) refl p q on s x u r e f g h)
+    second_answer s x u r e f g h = ap span_answer h ∙ ap (on_both y z a b) (sym (ap (λ (v : Result Extent Refusal). on_span v (λ t. Ok (t , t))) h) ∙ second_span y z a b 1 2 (where_of a b) refl p q on s x u r e f g h)
 
-    pub both_answer : (s t : Extent) (x u : Span) → x ≡ span_in y a p 1 → x ≡ Spans.Covers s → u ≡ span_in z b q 2 → u ≡ Spans.Covers t → on_both y z a b (Judge.Both s t) ≡ on_both y z a b (judged_of y z a b 1 2)
+    pub both_answer : (s t : Extent) (x u : Result Extent Refusal) → x ≡ span_in y a p 1 → x ≡ Ok s → u ≡ span_in z b q 2 → u ≡ Ok t → on_both y z a b (Ok (s , t)) ≡ on_both y z a b (judged_of y z a b 1 2)
     both_answer s t x u e f g h = ap (on_both y z a b) (both_spans y z a b 1 2 (where_of a b) refl p q on s t x u e f g h)
 
     -- two sound records on one reference that cover s and t
-    pub both_ready : (s t : Extent) (x u : Span) → Sound a y → Sound b z → x ≡ span_in y a p 1 → x ≡ Spans.Covers s → u ≡ span_in z b q 2 → u ≡ Spans.Covers t → Ready y z s t a b
+    pub both_ready : (s t : Extent) (x u : Result Extent Refusal) → Sound a y → Sound b z → x ≡ span_in y a p 1 → x ≡ Ok s → u ≡ span_in z b q 2 → u ≡ Ok t → Ready y z s t a b
     both_ready s t x u l l' e f g h =
         record { first = l; second = l'; place₁ = 1; place₂ = 2; both = sym (both_spans y z a b 1 2 (where_of a b) refl p q on s t x u e f g h) }
 
@@ -116,9 +110,9 @@ module _ (w : Strategies) (s : State) where
   judged y z = judged_of y z s.first s.second 1 2
 
   both_answers : (y z : Layout) (j : Judged) → on_both y z s.first s.second j ≡ (on_judged w y z s j).answer
-  both_answers y z (Judge.Refused r) = refl
-  both_answers y z (Judge.Apart r) = refl
-  both_answers y z (Judge.Both p q) = go (lengthless p q)
+  both_answers y z (Err (Untreateds.Refused r)) = refl
+  both_answers y z (Err (Untreateds.Apart r)) = refl
+  both_answers y z (Ok (p , q)) = go (lengthless p q)
     where
       go : (c : Bool) → cond c (Answers.NoOverlap NoReferenceLength) (answer_of (shared y z p.start q.start s.first s.second)) ≡ (on_reference w y z s p.start q.start c).answer
       go true = refl
@@ -128,14 +122,14 @@ module _ (w : Strategies) (s : State) where
   unfolding answer_on records_of
   records_answer = one (check_of s.first 1)
     where
-      two : (y : Layout) (k : Checked) → on_sound k (λ z. on_both y z s.first s.second (judged y z)) ≡ (on_good k s (λ z. on_judged w y z s (judged y z))).answer
-      two y (Good z) = both_answers y z (judged y z)
-      two y (Bad r) = refl
+      two : (y : Layout) (k : Result Layout Refusal) → on_sound k (λ z. on_both y z s.first s.second (judged y z)) ≡ (on_good k s (λ z. on_judged w y z s (judged y z))).answer
+      two y (Ok z) = both_answers y z (judged y z)
+      two y (Err r) = refl
 
-      one : (k : Checked) → on_sound k (λ y. on_sound (check_of s.second 2) (λ z. on_both y z s.first s.second (judged y z)))
+      one : (k : Result Layout Refusal) → on_sound k (λ y. on_sound (check_of s.second 2) (λ z. on_both y z s.first s.second (judged y z)))
           ≡ (on_good k s (λ y. on_good (check_of s.second 2) s (λ z. on_judged w y z s (judged y z)))).answer
-      one (Good y) = two y (check_of s.second 2)
-      one (Bad r) = refl
+      one (Ok y) = two y (check_of s.second 2)
+      one (Err r) = refl
 
   pub pair_answers : cap_outside w.cap ≡ false → full s.stats ≡ false → answer_on s.first s.second ≡ (pair_of w s).answer
   unfolding pair_of

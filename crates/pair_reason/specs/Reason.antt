@@ -1,36 +1,33 @@
 -- The pair call's answer by the records alone, and its number in the call that gives the reason. (Laws: whatever strategies and counts it is
 -- given, the pair call answers so unless it is refused for its counts.)
-use Rattle.std.specs.Prelude.{ℕ, List, cond}
+use Rattle.refusal.specs.declared.Refusal.{Refusal}
+use Rattle.cigar.specs.declared.Extent.{Extent}
+use Rattle.pair_judgement.specs.declared.Untreated.TheVariants as Untreateds
+use Rattle.std.specs.Prelude.{ℕ, List, cond, Result, Ok, Err}
 use Rattle.refusal.specs.Table.{operation_code_of}
 use Rattle.fields.specs.declared.Layout.{Layout}
-use Rattle.fields.specs.declared.Checked.{Checked}
-use Rattle.fields.specs.declared.Checked.TheVariants.{Good, Bad}
 use Rattle.fields.specs.Check.{check_of}
-use Rattle.cigar.specs.declared.Span.{Span}
-use Rattle.cigar.specs.declared.Span.TheVariants as Spans
 use Rattle.pair_merge.specs.Shared.{shared}
-use Rattle.pair_judgement.specs.declared.Judged.{Judged}
-use Rattle.pair_judgement.specs.declared.Judged.TheVariants as Judge
 use Rattle.pair_judgement.specs.declared.Reason.TheVariants.{NoReferenceLength}
 use Rattle.pair_judgement.specs.Reason.{reason_number, lengthless}
-use Rattle.pair_judgement.specs.Judgement.{judged_of}
+use Rattle.pair_judgement.specs.Judgement.{judged_of, Judged}
 use Rattle.pair.specs.declared.Answer.{Answer}
 use Rattle.pair.specs.declared.Answer.TheVariants as Answers
 use Rattle.pair.specs.Pair.{answer_of}
 
-abbrev pub span_answer : Span → Answer
-span_answer (Spans.Covers e) = Answers.Overlap
-span_answer (Spans.Refused r) = Answers.Refused r
+abbrev pub span_answer : Result Extent Refusal → Answer
+span_answer (Ok e) = Answers.Overlap
+span_answer (Err r) = Answers.Refused r
 
 -- what was judged by steps 4 to 7; then whether each record has a length on the reference; then steps 8 and 9
 abbrev pub on_both : Layout → Layout → List ℕ → List ℕ → Judged → Answer
-on_both y z a b (Judge.Refused r) = Answers.Refused r
-on_both y z a b (Judge.Apart r) = Answers.NoOverlap r
-on_both y z a b (Judge.Both p q) = cond (lengthless p q) (Answers.NoOverlap NoReferenceLength) (answer_of (shared y z p.start q.start a b))
+on_both y z a b (Err (Untreateds.Refused r)) = Answers.Refused r
+on_both y z a b (Err (Untreateds.Apart r)) = Answers.NoOverlap r
+on_both y z a b (Ok (p , q)) = cond (lengthless p q) (Answers.NoOverlap NoReferenceLength) (answer_of (shared y z p.start q.start a b))
 
-abbrev pub on_sound : Checked → (Layout → Answer) → Answer
-on_sound (Good y) rest = rest y
-on_sound (Bad r) rest = Answers.Refused r
+abbrev pub on_sound : Result Layout Refusal → (Layout → Answer) → Answer
+on_sound (Ok y) rest = rest y
+on_sound (Err r) rest = Answers.Refused r
 
 -- step 3, first record before second; then steps 4 to 9
 unfoldable pub answer_on : List ℕ → List ℕ → Answer

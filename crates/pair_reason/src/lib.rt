@@ -9,10 +9,11 @@ ghost use Rattle.pair_judgement.specs.Where.{where_of};
 ghost use Rattle.pair_judgement.specs.Ready.{Ready};
 ghost use Rattle.pair_reason.specs.Reason.{span_answer, on_both, answer_on, reason_code, reason_call_of};
 
-use cigar::Span;
-use fields::{Checked, Layout};
+use cigar::Extent;
+use fields::Layout;
 use pair::Answer;
-use pair_judgement::{Judged, Placed, Where};
+use pair_judgement::Placed;
+use refusal::Refusal;
 
 // A sound record on a reference: its layout, and its position.
 #[derive(Clone, Copy)]
@@ -24,7 +25,7 @@ struct Side {
 // The answer of two records that were judged to be on one reference: by whether they share a position.
 fn answer_both(first: &[u8], second: &[u8], a: Placed, b: Placed) -> Answer
     requires { Ready a.layout b.layout a.extent b.extent first.now second.now }
-    ensures { result ≡ on_both a.layout b.layout first.now second.now (Judged.Both a.extent b.extent) }
+    ensures { result ≡ on_both a.layout b.layout first.now second.now (Ok (a.extent , b.extent)) }
 {
     if pair_judgement::share(first, second, a, b) {
         return Answer::Overlap;
@@ -33,29 +34,29 @@ fn answer_both(first: &[u8], second: &[u8], a: Placed, b: Placed) -> Answer
 }
 
 // The refusal of what a record covers, as the answer.
-fn refused(p: Span) -> Answer
+fn refused(p: Result<Extent, Refusal>) -> Answer
     ensures { result ≡ span_answer p }
 {
     match p {
-        Span::Covers(_) => Answer::Overlap,
-        Span::Refused(r) => Answer::Refused(r),
+        Ok(_) => Answer::Overlap,
+        Err(r) => Answer::Refused(r),
     }
 }
 
 // The answer of two sound records on one reference at these positions. The steps of `judge` stand here once
 // more, as the pair call is faster where nobody else calls that.
 fn answer_on(first: &[u8], second: &[u8], a: Side, b: Side) -> Answer
-    requires { Sound first.now a.layout × Sound second.now b.layout × (where_of first.now second.now ≡ Where.On a.pos b.pos) }
+    requires { Sound first.now a.layout × Sound second.now b.layout × (where_of first.now second.now ≡ Ok (a.pos , b.pos)) }
     ensures { result ≡ on_both a.layout b.layout first.now second.now (judged_of a.layout b.layout first.now second.now 1 2) }
 {
     let y = a.layout;
     let z = b.layout;
     let span1 = pair_judgement::span_of(first, y, a.pos, 1);
-    let Span::Covers(extent1) = span1 else {
+    let Ok(extent1) = span1 else {
         return refused(span1);
     };
     let span2 = pair_judgement::span_of(second, z, b.pos, 2);
-    let Span::Covers(extent2) = span2 else {
+    let Ok(extent2) = span2 else {
         return refused(span2);
     };
     let a = Placed {
@@ -74,17 +75,17 @@ pub fn answer(first: &[u8], second: &[u8]) -> Answer
     ensures { result ≡ answer_on first.now second.now }
 {
     let checked1 = fields::check_record(first, 1);
-    let Checked::Good(y) = checked1 else {
+    let Ok(y) = checked1 else {
         return pair::refused(checked1);
     };
     let checked2 = fields::check_record(second, 2);
-    let Checked::Good(z) = checked2 else {
+    let Ok(z) = checked2 else {
         return pair::refused(checked2);
     };
     let at = pair_judgement::locate(first, second);
     match at {
-        Where::Apart(r) => Answer::NoOverlap(r),
-        Where::On(p, q) => {
+        Err(r) => Answer::NoOverlap(r),
+        Ok((p, q)) => {
             let a = Side { layout: y, pos: p };
             let b = Side { layout: z, pos: q };
             answer_on(first, second, a, b)

@@ -1,4 +1,6 @@
 -- A merge's answer in the paper's numbers, exactly when each is given.
+use Rattle.std.specs.Prelude.{Result, Ok, Err}
+use Rattle.refusal.specs.declared.Refusal.{Refusal}
 use Prim.Native.Nat.{ℕ, ◌<◌}
 use mathlib.Core.Path.{◌≡◌, refl}
 use mathlib.Core.Bool.{Bool, true, false, cond, ◌||◌}
@@ -8,8 +10,6 @@ use lib.Dec.{ltb}
 use borrow.Author.Tests.{ltb-true, lt-ltb}
 use Rattle.refusal.specs.declared.Refusal.TheVariants.{Sum}
 use Rattle.stats.specs.declared.CorrectionStats.{CorrectionStats}
-use Rattle.stats.specs.declared.Merged.{Merged}
-use Rattle.stats.specs.declared.Merged.TheVariants.{Total, Refused}
 use Rattle.stats.specs.Counts.{plus, above, merged_of, merged_numbers}
 
 -- ---- some count is above n: which
@@ -30,8 +30,8 @@ above_some n g = or_join _ _ (or_join _ _ (or_join _ _ (tests n g.overlapping) (
 -- ---- the merge of g and h
 module _ (g h : CorrectionStats) where
   -- what the test of the sums comes to
-  abbrev summed : Bool → Merged
-  summed t = cond t (Refused Sum) (Total (plus g h))
+  abbrev summed : Bool → Result CorrectionStats Refusal
+  summed t = cond t (Err Sum) (Ok (plus g h))
 
   -- 13 at place 0: a sum is above 2 ^ 64 - 1
   pub merge_refused : (merged_numbers (merged_of g h) ≡ 13 ∷ 0 ∷ []) ↔ (above 18446744073709551615 (plus g h) ≡ true)
@@ -42,9 +42,9 @@ module _ (g h : CorrectionStats) where
       go false = (λ e. cc, λ e. cc)
 
   -- 0 and the sums: none is
-  pub merge_total : (merged_numbers (merged_of g h) ≡ merged_numbers (Total (plus g h))) ↔ (above 18446744073709551615 (plus g h) ≡ false)
+  pub merge_total : (merged_numbers (merged_of g h) ≡ merged_numbers (Ok (plus g h))) ↔ (above 18446744073709551615 (plus g h) ≡ false)
   merge_total = go (above 18446744073709551615 (plus g h))
     where
-      go : (t : Bool) → (merged_numbers (summed t) ≡ merged_numbers (Total (plus g h))) ↔ (t ≡ false)
+      go : (t : Bool) → (merged_numbers (summed t) ≡ merged_numbers (Ok (plus g h))) ↔ (t ≡ false)
       go true = (λ e. cc, λ e. cc)
       go false = (λ e. refl, λ e. refl)

@@ -1,10 +1,9 @@
 -- The four counts: zero, the sum, what a call accepts, and the merge of two.
-use Rattle.std.specs.Prelude.{ℕ, ◌+◌, Bool, cond, ◌||◌, List, [], ◌∷◌, ltb}
+use Rattle.refusal.specs.declared.Refusal.{Refusal}
+use Rattle.std.specs.Prelude.{ℕ, ◌+◌, Bool, cond, ◌||◌, List, [], ◌∷◌, ltb, Result, Ok, Err}
 use Rattle.refusal.specs.declared.Refusal.TheVariants.{Sum}
 use Rattle.refusal.specs.Table.{number_of, place_of}
 use Rattle.stats.specs.declared.CorrectionStats.{CorrectionStats}
-use Rattle.stats.specs.declared.Merged.{Merged}
-use Rattle.stats.specs.declared.Merged.TheVariants.{Total, Refused}
 
 abbrev pub counts : ℕ → ℕ → ℕ → ℕ → CorrectionStats
 counts o a d c = record { overlapping = o; agreeing = a; disagreeing = d; corrected = c }
@@ -24,10 +23,10 @@ abbrev pub full : CorrectionStats → Bool
 full g = above 18446744073692774399 g
 
 -- refusal 13: a sum above 2 ^ 64 - 1
-abbrev pub merged_of : CorrectionStats → CorrectionStats → Merged
-merged_of g h = cond (above 18446744073709551615 (plus g h)) (Refused Sum) (Total (plus g h))
+abbrev pub merged_of : CorrectionStats → CorrectionStats → Result CorrectionStats Refusal
+merged_of g h = cond (above 18446744073709551615 (plus g h)) (Err Sum) (Ok (plus g h))
 
 -- the answer of a merge in the paper's numbers: 0, then the sums; or a refusal's number, then its place
-abbrev pub merged_numbers : Merged → List ℕ
-merged_numbers (Total t) = 0 ∷ t.overlapping ∷ t.agreeing ∷ t.disagreeing ∷ t.corrected ∷ []
-merged_numbers (Refused r) = number_of r ∷ place_of r ∷ []
+abbrev pub merged_numbers : Result CorrectionStats Refusal → List ℕ
+merged_numbers (Ok t) = 0 ∷ t.overlapping ∷ t.agreeing ∷ t.disagreeing ∷ t.corrected ∷ []
+merged_numbers (Err r) = number_of r ∷ place_of r ∷ []

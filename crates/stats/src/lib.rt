@@ -19,13 +19,6 @@ pub struct CorrectionStats {
     pub corrected: u64,
 }
 
-// Both sides' counts added up, or the refusal of a sum that does not fit.
-#[derive(Clone, Copy)]
-pub enum Merged {
-    Total(CorrectionStats),
-    Refused(Refusal),
-}
-
 // The largest count that a call accepts: it leaves room for what any pair or group can add.
 pub const LIMIT: u64 = 18446744073692774399;
 
@@ -86,22 +79,22 @@ impl CorrectionStats {
     }
 
     // Two statistics as one. Refused where a sum passes the largest number.
-    pub fn merge(self, other: CorrectionStats) -> Merged
+    pub fn merge(self, other: CorrectionStats) -> Result<CorrectionStats, Refusal>
         ensures { result ≡ merged_of self other }
     {
         if passes(self.overlapping, other.overlapping) {
-            return Merged::Refused(Refusal::Sum);
+            return Err(Refusal::Sum);
         }
         if passes(self.agreeing, other.agreeing) {
-            return Merged::Refused(Refusal::Sum);
+            return Err(Refusal::Sum);
         }
         if passes(self.disagreeing, other.disagreeing) {
-            return Merged::Refused(Refusal::Sum);
+            return Err(Refusal::Sum);
         }
         if passes(self.corrected, other.corrected) {
-            return Merged::Refused(Refusal::Sum);
+            return Err(Refusal::Sum);
         }
-        Merged::Total(self.plus(other))
+        Ok(self.plus(other))
     }
 }
 

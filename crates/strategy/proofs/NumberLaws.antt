@@ -1,4 +1,5 @@
 -- A number above 2 stands for no strategy, and one outside of 2 to 93 for no cap.
+use Rattle.std.specs.Prelude.{Ok, Err}
 use Prim.Native.Nat.{ℕ, ◌<◌, ◌≤◌}
 use mathlib.Core.Path.{◌≡◌, refl, ap, ◌∙◌}
 use mathlib.Core.Bool.{Bool, true, false, cond}
@@ -15,11 +16,10 @@ use Rattle.strategy.specs.declared.AgreementStrategy.TheVariants as Agree
 use Rattle.strategy.specs.declared.DisagreementStrategy.{DisagreementStrategy}
 use Rattle.strategy.specs.declared.DisagreementStrategy.TheVariants as Differ
 use Rattle.strategy.specs.declared.Strategies.{Strategies}
-use Rattle.strategy.specs.declared.Numbered.TheVariants.{Are, Refused}
 use Rattle.strategy.specs.Cap.{cap_outside}
 use Rattle.strategy.specs.Number.{agreement_of, disagreement_of, both, numbered_of}
 
-no_second : (m : Option AgreementStrategy) (cap : ℕ) → both m none cap ≡ Refused Strategy
+no_second : (m : Option AgreementStrategy) (cap : ℕ) → both m none cap ≡ Err Strategy
 no_second none cap = refl
 no_second (some m) cap = refl
 
@@ -35,55 +35,55 @@ cap_inside cap h k = rw (le-ltb cap 2 h, le-ltb 93 cap k)
 
 -- ---- the numbers, as the code asks them
 module _ (a d cap : ℕ) where
-  pub first_none : 2 < a → Refused Strategy ≡ numbered_of a d cap
+  pub first_none : 2 < a → Err Strategy ≡ numbered_of a d cap
   unfolding numbered_of
   first_none h = rw (get_or-eq_default (some Agree.Consensus ∷ some Agree.MaxQual ∷ some Agree.PassThrough ∷ []) none h)
 
-  pub second_none : 2 < d → Refused Strategy ≡ numbered_of a d cap
+  pub second_none : 2 < d → Err Strategy ≡ numbered_of a d cap
   unfolding numbered_of
   second_none h =
       rw (get_or-eq_default (some Differ.Consensus ∷ some Differ.MaskBoth ∷ some Differ.MaskLowerQual ∷ []) none h, no_second (agreement_of a) cap)
 
   module _ (m : AgreementStrategy) (k : DisagreementStrategy) (em : some m ≡ agreement_of a) (ek : some k ≡ disagreement_of d) where
-    pub cap_none : cap_outside cap ≡ true → Refused Cap ≡ numbered_of a d cap
+    pub cap_none : cap_outside cap ≡ true → Err Cap ≡ numbered_of a d cap
     unfolding numbered_of
     cap_none h = rw (← em, ← ek, h)
 
-    pub both_are : cap_outside cap ≡ false → Are (record { agreement = m; disagreement = k; cap = cap }) ≡ numbered_of a d cap
+    pub both_are : cap_outside cap ≡ false → Ok (record { agreement = m; disagreement = k; cap = cap }) ≡ numbered_of a d cap
     unfolding numbered_of
     both_are h = rw (← em, ← ek, h)
 
 -- ---- what the numbers give
 module _ (cap : ℕ) (r : Refusal) (w : Strategies) where
-  at_cap : (t : Bool) → cap_outside cap ≡ t → cond t (Refused Cap) (Are w) ≡ Refused r → (r ≡ Cap) × (cap_outside cap ≡ true)
+  at_cap : (t : Bool) → cap_outside cap ≡ t → cond t (Err Cap) (Ok w) ≡ Err r → (r ≡ Cap) × (cap_outside cap ≡ true)
   at_cap true e f = (cc, e)
   at_cap false e f = let z : ◌≡◌ {A = ℕ} 0 1 = cc in absurd (omega arith)
 
 -- a refusal is that of a strategy number, or of the cap where it is outside
-pub refused_is : (a d cap : ℕ) (r : Refusal) → numbered_of a d cap ≡ Refused r → (r ≡ Strategy) ⊎ ((r ≡ Cap) × (cap_outside cap ≡ true))
+pub refused_is : (a d cap : ℕ) (r : Refusal) → numbered_of a d cap ≡ Err r → (r ≡ Strategy) ⊎ ((r ≡ Cap) × (cap_outside cap ≡ true))
 unfolding numbered_of
 refused_is a d cap r e = go (agreement_of a) (disagreement_of d) e
   where
-    go : (m : Option AgreementStrategy) (k : Option DisagreementStrategy) → both m k cap ≡ Refused r → (r ≡ Strategy) ⊎ ((r ≡ Cap) × (cap_outside cap ≡ true))
+    go : (m : Option AgreementStrategy) (k : Option DisagreementStrategy) → both m k cap ≡ Err r → (r ≡ Strategy) ⊎ ((r ≡ Cap) × (cap_outside cap ≡ true))
     go none k f = inl cc
     go (some m) none f = inl cc
     go (some m) (some k) f = inr (at_cap cap r (record { agreement = m; disagreement = k; cap = cap }) (cap_outside cap) refl f)
 
 -- with the full cap it is that of a strategy number
-pub full_refused : (a d : ℕ) (r : Refusal) → numbered_of a d 93 ≡ Refused r → r ≡ Strategy
+pub full_refused : (a d : ℕ) (r : Refusal) → numbered_of a d 93 ≡ Err r → r ≡ Strategy
 full_refused a d r e = ⊎_elim (λ (h : r ≡ Strategy). h) (λ (h : (r ≡ Cap) × (cap_outside 93 ≡ true)). let z : ◌≡◌ {A = ℕ} 0 1 = ap (λ (t : Bool). cond t 1 0) h.1 in absurd (omega arith)) (refused_is a d 93 r e)
 
 -- the cap of strategies by number is the one given, and inside
-pub are_capped : (a d cap : ℕ) (w : Strategies) → numbered_of a d cap ≡ Are w → (w.cap ≡ cap) × (cap_outside w.cap ≡ false)
+pub are_capped : (a d cap : ℕ) (w : Strategies) → numbered_of a d cap ≡ Ok w → (w.cap ≡ cap) × (cap_outside w.cap ≡ false)
 unfolding numbered_of
 are_capped a d cap w e = go (agreement_of a) (disagreement_of d) e
   where
     inside : (m : AgreementStrategy) (k : DisagreementStrategy) (t : Bool) → cap_outside cap ≡ t
-        → cond t (Refused Cap) (Are (record { agreement = m; disagreement = k; cap = cap })) ≡ Are w → (w.cap ≡ cap) × (cap_outside w.cap ≡ false)
+        → cond t (Err Cap) (Ok (record { agreement = m; disagreement = k; cap = cap })) ≡ Ok w → (w.cap ≡ cap) × (cap_outside w.cap ≡ false)
     inside m k true h f = let z : ◌≡◌ {A = ℕ} 0 1 = cc in absurd (omega arith)
     inside m k false h f = let q : w.cap ≡ cap = cc in (q, ap cap_outside q ∙ h)
 
-    go : (m : Option AgreementStrategy) (k : Option DisagreementStrategy) → both m k cap ≡ Are w → (w.cap ≡ cap) × (cap_outside w.cap ≡ false)
+    go : (m : Option AgreementStrategy) (k : Option DisagreementStrategy) → both m k cap ≡ Ok w → (w.cap ≡ cap) × (cap_outside w.cap ≡ false)
     go none k f = let z : ◌≡◌ {A = ℕ} 0 1 = cc in absurd (omega arith)
     go (some m) none f = let z : ◌≡◌ {A = ℕ} 0 1 = cc in absurd (omega arith)
     go (some m) (some k) f = inside m k (cap_outside cap) refl f

@@ -214,13 +214,6 @@ fn untouched(x: u8, a: u8, y: u8, b: u8) -> Treated
     }
 }
 
-// Both strategies and the cap by their numbers, or the refusal of a number that is none.
-#[derive(Clone, Copy)]
-pub enum Numbered {
-    Are(Strategies),
-    Refused(Refusal),
-}
-
 // 0 is Consensus, 1 MaxQual, 2 PassThrough. No number comes to the last arm: with an arm for each of
 // the three the compiler takes the number itself for the strategy.
 fn agreement_of(n: u32) -> AgreementStrategy
@@ -250,24 +243,24 @@ fn disagreement_of(n: u32) -> DisagreementStrategy
 
 // The strategies that two numbers stand for, with the cap. Refused where either is not 0 to 2; then where
 // the cap is not 2 to 93.
-pub fn by_number(agreement: u32, disagreement: u32, cap: u32) -> Numbered
+pub fn by_number(agreement: u32, disagreement: u32, cap: u32) -> Result<Strategies, Refusal>
     ensures { result ≡ numbered_of agreement disagreement cap }
 {
     if 2 < agreement {
-        return Numbered::Refused(Refusal::Strategy);
+        return Err(Refusal::Strategy);
     }
     if 2 < disagreement {
-        return Numbered::Refused(Refusal::Strategy);
+        return Err(Refusal::Strategy);
     }
     let m = agreement_of(agreement);
     let k = disagreement_of(disagreement);
     if cap < LEAST_CAP as u32 {
-        return Numbered::Refused(Refusal::Cap);
+        return Err(Refusal::Cap);
     }
     if (FULL_CAP as u32) < cap {
-        return Numbered::Refused(Refusal::Cap);
+        return Err(Refusal::Cap);
     }
-    Numbered::Are(Strategies {
+    Ok(Strategies {
         agreement: m,
         disagreement: k,
         cap: cap as u8,

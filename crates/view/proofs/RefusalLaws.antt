@@ -1,4 +1,5 @@
 -- The view's answer in the paper's numbers, exactly when each is given. Assumes nothing.
+use Rattle.std.specs.Prelude.{Ok, Err}
 use mathlib.Core.Bool.{Bool, true, false, cond}
 use mathlib.Core.List.{List, [], ◌∷◌}
 use mathlib.Core.Logic.{◌↔◌}
@@ -11,7 +12,6 @@ use borrow.Author.Tests.{ltb-true, ltb-false, lt-ltb, le-ltb}
 use Rattle.refusal.specs.declared.Refusal.TheVariants.{RecordShort, RecordLong, NameAndOperations, BasesAndQualities}
 use Rattle.fields.specs.Layout.{bases_at, tags_at, layout_of}
 use Rattle.fields.specs.Check.{check_of}
-use Rattle.fields.specs.declared.Checked.TheVariants.{Good, Bad}
 use Rattle.view.specs.View.{view_numbers, viewed_by, refused_of}
 
 -- what a record meets, beside the answer: each refusal where those before it are not given
@@ -25,8 +25,8 @@ module _ (s : List ℕ) where
   -- what the four tests of the check come to
   tested : Bool → Bool → Bool → Bool → List ℕ
   tested p q r t =
-      let last = cond t (Bad (BasesAndQualities 0)) (Good (layout_of s)) in
-      view_numbers (viewed_by (cond p (Bad (RecordShort 0)) (cond q (Bad (RecordLong 0)) (cond r (Bad (NameAndOperations 0)) last))))
+      let last = cond t (Err (BasesAndQualities 0)) (Ok (layout_of s)) in
+      view_numbers (viewed_by (cond p (Err (RecordShort 0)) (cond q (Err (RecordLong 0)) (cond r (Err (NameAndOperations 0)) last))))
 
   -- what is answered was found
   found : Found s (view_numbers (refused_of s))

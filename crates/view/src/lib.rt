@@ -5,28 +5,21 @@
 ghost use Rattle.std.specs.Prelude.{◌≡◌};
 ghost use Rattle.view.specs.View.{refused_of, name_of, flags_of, ref_id_of, pos_of, operation_count_of, l_seq_of};
 
-use fields::{Checked, FIXED, Flags};
+use fields::{FIXED, Flags};
 use refusal::Refusal;
 
-// Whether a record can be viewed: refusals 1, 2 and 3 of the table, with place 0.
-#[derive(Clone, Copy)]
-pub enum Viewed {
-    Well,
-    Refused(Refusal),
-}
-
 // Whether a record given alone can be viewed: the check's own answer, but that 4 does not refuse.
-pub fn check_view(s: &[u8]) -> Viewed
+pub fn check_view(s: &[u8]) -> Result<(), Refusal>
     ensures { result ≡ refused_of s.now }
 {
     let checked = fields::check_record(s, 0);
-    let Checked::Bad(r) = checked else {
-        return Viewed::Well;
+    let Err(r) = checked else {
+        return Ok(());
     };
     if r.number() < 4 {
-        return Viewed::Refused(r);
+        return Err(r);
     }
-    Viewed::Well
+    Ok(())
 }
 
 // The record's name without its closing byte; the empty part where the record is refused.
@@ -34,7 +27,7 @@ pub fn name_part(s: &[u8]) -> &[u8]
     ensures { result.now ≡ name_of s.now }
 {
     let v = check_view(s);
-    let Viewed::Well = v else {
+    let Ok(()) = v else {
         return &s[0..0];
     };
     fields::name_of(s)
@@ -106,7 +99,7 @@ pub fn view_of<'a>(bytes: &'a [u8]) -> RecordView<'a>
 
 impl<'a> RecordView<'a> {
     // Whether the record is refused: by 1, 2 or 3 of the table, with place 0.
-    pub fn refused(self) -> Viewed
+    pub fn refused(self) -> Result<(), Refusal>
         ensures { result ≡ refused_of self.entry.bytes.now }
     {
         check_view(self.bytes)
@@ -163,7 +156,7 @@ pub fn name_of(s: &[u8]) -> &[u8]
 }
 
 // Whether a record that is lent as plain bytes is refused.
-pub fn refused_of(s: &[u8]) -> Viewed
+pub fn refused_of(s: &[u8]) -> Result<(), Refusal>
     ensures { result ≡ refused_of s.now }
 {
     view_of(s).refused()

@@ -6,7 +6,7 @@ ghost use Rattle.std.specs.Prelude.{◌≡◌, ◌≤◌, length};
 ghost use Rattle.view.specs.View.{flags_of, ref_id_of, pos_of, operation_count_of, l_seq_of};
 
 use fields::Flags;
-use view::Viewed;
+use refusal::Refusal;
 
 // What the first 20 bytes of a record hold. Reference id and position are given as their four bytes
 // are, so that 0xffffffff is -1.
@@ -41,10 +41,10 @@ fn say_signed(text: &[u8], n: i32) {
     }
 }
 
-fn say_viewed(viewed: Viewed) {
+fn say_viewed(viewed: Result<(), Refusal>) {
     match viewed {
-        Viewed::Well => say(b" bytes: well"),
-        Viewed::Refused(r) => {
+        Ok(()) => say(b" bytes: well"),
+        Err(r) => {
             say_next(b" bytes: refusal ", r.number() as u64);
             say_next(b" at place ", r.place() as u64);
         }

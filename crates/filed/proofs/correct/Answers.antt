@@ -12,24 +12,24 @@ returns-then-full c =
 
 pub correct_ended-requires : goal.correct_ended-requires
 correct_ended-requires c = (
-  found_at c.args.filed.now _ c.cut-e.result _ c.in-At.is c.cut-e.ensures.1,
+  found_at c.args.filed.now _ c.cut-e.result _ c.in-Some.is c.cut-e.ensures.1,
   sym c.full.ensures ∙ c.if-full.false,
 )
 
-pub returns-in-Broken : goal.returns-in-Broken
-returns-in-Broken c =
+pub returns-in-Err : goal.returns-in-Err
+returns-in-Err c =
     let args = c.args in
     broken args.filed.now args.out.now args.stats (sym c.full.ensures ∙ c.if-full.false) c.cut-e.result
-    c.cut-e.ensures.0 _ c.in-Broken.is c.refused-in-Broken.result c.refused-in-Broken.ensures
+    c.cut-e.ensures.0 _ c.in-Err.is c.refused-in-Err.result c.refused-in-Err.ensures
 
-pub returns-in-Missing : goal.returns-in-Missing
-returns-in-Missing c =
+pub returns-in-Err : goal.returns-in-Err
+returns-in-Err c =
     let args = c.args in
     missing args.filed.now args.out.now args.stats (sym c.full.ensures ∙ c.if-full.false) c.cut-e.result
-    c.cut-e.ensures.0 c.in-Missing.is c.refused-in-Missing.result c.refused-in-Missing.ensures
+    c.cut-e.ensures.0 c.in-Err.is c.refused-in-Err.result c.refused-in-Err.ensures
 
-pub returns-in-At : goal.returns-in-At
-returns-in-At c =
+pub returns-in-Some : goal.returns-in-Some
+returns-in-Some c =
     let args = c.args in
     at args.filed.now args.out.now args.stats (sym c.full.ensures ∙ c.if-full.false) c.cut-e.result
-    c.cut-e.ensures.0 _ c.in-At.is _ c.correct_ended.ensures
+    c.cut-e.ensures.0 _ c.in-Some.is _ c.correct_ended.ensures

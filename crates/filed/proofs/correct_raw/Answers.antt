@@ -28,16 +28,16 @@ returns-then-out-filed c =
     let args = c.args in
     let filed = args.filed.now in
     output_short filed args.out.now args.stats args.p args.strategies c.by_number-numbered.result
-    c.by_number-numbered.ensures _ c.in-Are.is args.n
+    c.by_number-numbered.ensures _ c.in-Ok.is args.n
     (front_whole filed args.begins.now args.n args.p c.requires.0 c.requires.1) c.judge_all-v.result
-    (rw (front_part filed args.p) at c.judge_all-v.ensures) c.in-Passed.is
+    (rw (front_part filed args.p) at c.judge_all-v.ensures) c.in-Ok.is
     c.if-out-filed.true c.refused-then-out-filed.result c.refused-then-out-filed.ensures
 
 pub write_filed-applied-requires : goal.write_filed-applied-requires
 write_filed-applied-requires c =
     let args = c.args in
     let front = front_part args.filed.now args.p in
-    (c.requires.0, c.requires.1, rw front at c.find.ensures, c.requires.2, omega arith, sym (rw front at c.judge_all-v.ensures) ∙ c.in-Passed.is)
+    (c.requires.0, c.requires.1, rw front at c.find.ensures, c.requires.2, omega arith, sym (rw front at c.judge_all-v.ensures) ∙ c.in-Ok.is)
 
 pub written-requires : goal.written-requires
 written-requires c =
@@ -50,7 +50,7 @@ returns-in-Refused c =
     let args = c.args in
     let filed = args.filed.now in
     pair_refused filed args.out.now args.stats args.p args.strategies c.by_number-numbered.result
-    c.by_number-numbered.ensures _ c.in-Are.is args.n
+    c.by_number-numbered.ensures _ c.in-Ok.is args.n
     (front_whole filed args.begins.now args.n args.p c.requires.0 c.requires.1) c.judge_all-v.result
     (rw (front_part filed args.p) at c.judge_all-v.ensures) _ c.in-Refused.is c.refused-in-Refused.result
     c.refused-in-Refused.ensures
@@ -60,8 +60,8 @@ returns-else-out-filed c =
     let args = c.args in
     let filed = args.filed.now in
     all_written filed args.out.now args.stats args.p args.strategies c.by_number-numbered.result
-    c.by_number-numbered.ensures _ c.in-Are.is args.n
+    c.by_number-numbered.ensures _ c.in-Ok.is args.n
     (front_whole filed args.begins.now args.n args.p c.requires.0 c.requires.1) c.judge_all-v.result
-    (rw (front_part filed args.p) at c.judge_all-v.ensures) c.in-Passed.is
+    (rw (front_part filed args.p) at c.judge_all-v.ensures) c.in-Ok.is
     (omega (arith, c.if-out-filed.false)) c.write_filed-applied.result _ c.write_filed-applied.ensures
     c.written.result c.written.ensures

@@ -53,7 +53,7 @@ loop-begin-preserved c =
     let loop = c.loop-begin in
     let size = sym c.if-zero.false ∙ c.zero_at-zero.ensures in (
       going_next c.args.s.now loop.begins loop.k loop.begin loop.invariant.0 c.loop-begin-test.true size
-          (omega arith) c.frame_at-f.result _ c.frame_at-f.ensures c.in-To.is _ refl,
+          (omega arith) c.frame_at-f.result _ c.frame_at-f.ensures c.in-Ok.is _ refl,
       length-set loop.begins _ _ ∙ loop.invariant.1,
     )
 

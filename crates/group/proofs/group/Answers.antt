@@ -7,7 +7,7 @@ pub returns-then-full : goal.returns-then-full
 returns-then-full c =
     let args = c.args in
     too_full args.agreement args.disagreement args.cap args.buf.now args.stats c.by_number-numbered.result
-    c.by_number-numbered.ensures _ c.in-Are.is (sym c.full.ensures ∙ c.if-full.true)
+    c.by_number-numbered.ensures _ c.in-Ok.is (sym c.full.ensures ∙ c.if-full.true)
     c.refused-then-full.result c.refused-then-full.ensures
 
 pub group_framed-requires : goal.group_framed-requires
@@ -24,5 +24,5 @@ pub returns-else-full : goal.returns-else-full
 returns-else-full c =
     let args = c.args in
     goes_on args.agreement args.disagreement args.cap args.buf.now args.stats c.by_number-numbered.result
-    c.by_number-numbered.ensures _ c.in-Are.is (sym c.full.ensures ∙ c.if-full.false) _
+    c.by_number-numbered.ensures _ c.in-Ok.is (sym c.full.ensures ∙ c.if-full.false) _
     c.group_framed.result c.group_framed.ensures

@@ -5,9 +5,9 @@ use Rattle.group.proofs.group_framed.Goals as goal
 
 pub group_pairs-requires : goal.group_pairs-requires
 group_pairs-requires c =
-    (filled _ _ _ c.cut-f.result c.in-Whole.is c.cut-f.ensures.1, sym c.cut-f.ensures.0 ∙ c.in-Whole.is, c.requires)
+    (filled _ _ _ c.cut-f.result c.in-Ok.is c.cut-f.ensures.1, sym c.cut-f.ensures.0 ∙ c.in-Ok.is, c.requires)
 
-pub returns-in-Broken : goal.returns-in-Broken
-returns-in-Broken c =
+pub returns-in-Err : goal.returns-in-Err
+returns-in-Err c =
     let args = c.args in
-    broken args.w args.buf.now args.stats c.cut-f.result c.cut-f.ensures.0 _ c.in-Broken.is c.refused.result c.refused.ensures
+    broken args.w args.buf.now args.stats c.cut-f.result c.cut-f.ensures.0 _ c.in-Err.is c.refused.result c.refused.ensures

@@ -40,7 +40,7 @@ pub loop-k-preserved : goal.loop-k-preserved
 loop-k-preserved c =
     let loop = c.loop-k in (
       going_next c.args.s.now loop.begins loop.k loop.begin loop.invariant.0 c.loop-k-test.true (omega arith)
-          c.frame_at-f.result _ c.frame_at-f.ensures c.in-To.is _ refl,
+          c.frame_at-f.result _ c.frame_at-f.ensures c.in-Ok.is _ refl,
       length-set loop.begins _ _ ∙ loop.invariant.1,
     )
 

@@ -14,16 +14,16 @@ returns-then-left-size c =
     frame_past args.s.now args.begin args.k (omega arith) c.if-left-lt4.false c.u32_at-size.result
     c.u32_at-size.ensures c.if-left-size.true
 
-pub returns-in-Good : goal.returns-in-Good
-returns-in-Good c =
+pub returns-in-Ok : goal.returns-in-Ok
+returns-in-Ok c =
     let args = c.args in
     frame_checked args.s.now args.begin args.k (omega arith) c.if-left-lt4.false c.u32_at-size.result
     c.u32_at-size.ensures c.if-left-size.false c.check_record-checked.result _ c.check_record-checked.ensures
-    c.in-Good.is
+    c.in-Ok.is
 
-pub returns-in-Bad : goal.returns-in-Bad
-returns-in-Bad c =
+pub returns-in-Err : goal.returns-in-Err
+returns-in-Err c =
     let args = c.args in
     frame_checked args.s.now args.begin args.k (omega arith) c.if-left-lt4.false c.u32_at-size.result
     c.u32_at-size.ensures c.if-left-size.false c.check_record-checked.result _ c.check_record-checked.ensures
-    c.in-Bad.is
+    c.in-Err.is

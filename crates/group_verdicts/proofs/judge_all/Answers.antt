@@ -43,8 +43,8 @@ judge_at-v-requires c =
           (c.requires.1.mates loop.i c.loop-i-test.true) c.if-m-eq0.false,
     )
 
-pub overflow_add-i-in-Passed : goal.overflow_add-i-in-Passed
-overflow_add-i-in-Passed c =
+pub overflow_add-i-in-Ok : goal.overflow_add-i-in-Ok
+overflow_add-i-in-Ok c =
     omega (arith, c.requires.0.few)
 
 pub loop-i-preserved : goal.loop-i-preserved
@@ -55,7 +55,7 @@ loop-i-preserved c =
       omega arith,
       left_passed (indexed_at s) (mates_of s args.n) args.n loop.i loop.invariant.1 c.loop-i-test.true
           (get_or args.mate.now loop.i 0) (c.requires.1.mates loop.i c.loop-i-test.true) c.if-m-eq0.false
-          c.judge_at-v.result _ c.judge_at-v.ensures c.in-Passed.is refl,
+          c.judge_at-v.result _ c.judge_at-v.ensures c.in-Ok.is refl,
     )
 
 pub returns-in-Refused : goal.returns-in-Refused

@@ -22,4 +22,4 @@ returns c =
     c.layout_of-z.result
     (read_sound _ c.layout_of-y.result c.requires.0 c.layout_of-y.ensures.0)
     (read_sound _ c.layout_of-z.result c.requires.1 c.layout_of-z.ensures.0) c.locate-at.result _
-    c.locate-at.ensures c.in-On.is
+    c.locate-at.ensures c.in-Ok.is

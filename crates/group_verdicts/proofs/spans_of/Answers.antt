@@ -18,4 +18,4 @@ returns c =
     c.spanned-2.ensures ∙ second_decides c.span_of-span1.result c.span_of-span2.result
     (span_in args.a.layout args.first.now args.a.pos args.a.index)
     (span_in args.b.layout args.second.now args.b.pos args.b.index) _ c.span_of-span1.ensures
-    c.in-Covers.is c.span_of-span2.ensures
+    c.in-Ok.is c.span_of-span2.ensures

@@ -3,9 +3,9 @@ use mathlib.Core.Path.{ap, sym, ◌∙◌}
 use Rattle.lent.specs.Lent.{on_merged}
 use Rattle.lent.proofs.merge_kept.Goals as goal
 
-pub returns-in-Total : goal.returns-in-Total
-returns-in-Total c =
-    ap (on_merged c.args.stats) (sym c.in-Total.is ∙ c.merge-merged.ensures)
+pub returns-in-Ok : goal.returns-in-Ok
+returns-in-Ok c =
+    ap (on_merged c.args.stats) (sym c.in-Ok.is ∙ c.merge-merged.ensures)
 
 pub returns-in-Refused : goal.returns-in-Refused
 returns-in-Refused c =

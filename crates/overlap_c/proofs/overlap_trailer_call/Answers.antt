@@ -2,11 +2,11 @@
 use Rattle.overlap_c.proofs.FiledCallLaws.{trailer_made, trailer_refused}
 use Rattle.overlap_c.proofs.overlap_trailer_call.Goals as goal
 
-pub returns-in-Made : goal.returns-in-Made
-returns-in-Made c =
+pub returns-in-Ok : goal.returns-in-Ok
+returns-in-Ok c =
     let args = c.args in
     trailer_made args.frames.now args.agreement args.disagreement args.trailer.now _ c.file-filing.result
-    c.file-filing.ensures _ c.in-Made.is
+    c.file-filing.ensures _ c.in-Ok.is
 
 pub returns-in-Refused : goal.returns-in-Refused
 returns-in-Refused c =

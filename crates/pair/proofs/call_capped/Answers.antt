@@ -29,15 +29,15 @@ returns-in_default-checked2 c =
     let first = args.first.now in
     let second = args.second.now in
     ap (λ (x : Answer). outcome x (state first second args.stats)) c.refused-in_default-checked2.ensures ∙ call_second args.w
-    (state first second args.stats) (sym c.full.ensures ∙ c.if-full.false) c.in-Good.y
-    (sym c.check_record-checked1.ensures ∙ c.in-Good.is) c.check_record-checked2.result _
+    (state first second args.stats) (sym c.full.ensures ∙ c.if-full.false) c.in-Ok.y
+    (sym c.check_record-checked1.ensures ∙ c.in-Ok.is) c.check_record-checked2.result _
     c.check_record-checked2.ensures c.in_default-checked2.is
 
 pub judge-judged-requires : goal.judge-judged-requires
 judge-judged-requires c = (
-  good_sound _ 1 c.in-Good.y (sym c.check_record-checked1.ensures ∙ c.in-Good.is),
-  good_sound _ 2 c.in-Good-checked2.z
-      (sym c.check_record-checked2.ensures ∙ c.in-Good-checked2.is),
+  good_sound _ 1 c.in-Ok.y (sym c.check_record-checked1.ensures ∙ c.in-Ok.is),
+  good_sound _ 2 c.in-Ok-checked2.z
+      (sym c.check_record-checked2.ensures ∙ c.in-Ok-checked2.is),
 )
 
 pub call_both-requires : goal.call_both-requires
@@ -45,15 +45,15 @@ call_both-requires c =
     let args = c.args in (
       record {
         first
-            = (good_sound _ 1 c.in-Good.y
-            (sym c.check_record-checked1.ensures ∙ c.in-Good.is));
+            = (good_sound _ 1 c.in-Ok.y
+            (sym c.check_record-checked1.ensures ∙ c.in-Ok.is));
         second
-            = (good_sound _ 2 c.in-Good-checked2.z
-            (sym c.check_record-checked2.ensures ∙ c.in-Good-checked2.is));
+            = (good_sound _ 2 c.in-Ok-checked2.z
+            (sym c.check_record-checked2.ensures ∙ c.in-Ok-checked2.is));
         place₁ = 1;
         place₂ = 2;
         both
-            = sym c.judge-judged.ensures ∙ c.in-Both.is;
+            = sym c.judge-judged.ensures ∙ c.in-Ok.is;
       },
       room_less args.stats 131072 _ (omega arith) (full_room args.stats (sym c.full.ensures ∙ c.if-full.false)),
     )
@@ -62,25 +62,25 @@ pub returns-in-Refused : goal.returns-in-Refused
 returns-in-Refused c =
     let args = c.args in
     call_judged args.w (state args.first.now args.second.now args.stats) (sym c.full.ensures ∙ c.if-full.false)
-    c.in-Good.y (sym c.check_record-checked1.ensures ∙ c.in-Good.is)
-    c.in-Good-checked2.z c.judge-judged.result _
-    (sym c.check_record-checked2.ensures ∙ c.in-Good-checked2.is) c.judge-judged.ensures
+    c.in-Ok.y (sym c.check_record-checked1.ensures ∙ c.in-Ok.is)
+    c.in-Ok-checked2.z c.judge-judged.result _
+    (sym c.check_record-checked2.ensures ∙ c.in-Ok-checked2.is) c.judge-judged.ensures
     c.in-Refused.is
 
 pub returns-in-Apart : goal.returns-in-Apart
 returns-in-Apart c =
     let args = c.args in
     call_judged args.w (state args.first.now args.second.now args.stats) (sym c.full.ensures ∙ c.if-full.false)
-    c.in-Good.y (sym c.check_record-checked1.ensures ∙ c.in-Good.is)
-    c.in-Good-checked2.z c.judge-judged.result _
-    (sym c.check_record-checked2.ensures ∙ c.in-Good-checked2.is) c.judge-judged.ensures
+    c.in-Ok.y (sym c.check_record-checked1.ensures ∙ c.in-Ok.is)
+    c.in-Ok-checked2.z c.judge-judged.result _
+    (sym c.check_record-checked2.ensures ∙ c.in-Ok-checked2.is) c.judge-judged.ensures
     c.in-Apart.is
 
-pub returns-in-Both : goal.returns-in-Both
-returns-in-Both c =
+pub returns-in-Ok : goal.returns-in-Ok
+returns-in-Ok c =
     let args = c.args in
     c.call_both.ensures ∙ call_judged args.w (state args.first.now args.second.now args.stats)
-    (sym c.full.ensures ∙ c.if-full.false) c.in-Good.y
-    (sym c.check_record-checked1.ensures ∙ c.in-Good.is) c.in-Good-checked2.z
-    c.judge-judged.result _ (sym c.check_record-checked2.ensures ∙ c.in-Good-checked2.is)
-    c.judge-judged.ensures c.in-Both.is
+    (sym c.full.ensures ∙ c.if-full.false) c.in-Ok.y
+    (sym c.check_record-checked1.ensures ∙ c.in-Ok.is) c.in-Ok-checked2.z
+    c.judge-judged.result _ (sym c.check_record-checked2.ensures ∙ c.in-Ok-checked2.is)
+    c.judge-judged.ensures c.in-Ok.is

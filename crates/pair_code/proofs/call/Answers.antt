@@ -23,7 +23,7 @@ returns-in-NoOverlap c =
     called_none counts (outcome c.call-called.result.answer (state _ _ c.call-called.result.stats)) _ c.in-NoOverlap.is
     ∙ called_as args.first.now args.second.now args.agreement args.disagreement args.cap counts c.if-counts-ne-COUNTS.false
     c.by_number-numbered.result c.by_number-numbered.ensures _ c.counts_at-stats.result _
-    c.in-Are.is c.counts_at-stats.ensures c.call-called.ensures
+    c.in-Ok.is c.counts_at-stats.ensures c.call-called.ensures
 
 pub returns-in-Overlap : goal.returns-in-Overlap
 returns-in-Overlap c =
@@ -32,7 +32,7 @@ returns-in-Overlap c =
     called_overlap counts (outcome c.call-called.result.answer (state _ _ c.call-called.result.stats)) _
     c.in-Overlap.is c.put_counts.ensures ∙ called_as args.first.now args.second.now
     args.agreement args.disagreement args.cap counts c.if-counts-ne-COUNTS.false c.by_number-numbered.result
-    c.by_number-numbered.ensures _ c.counts_at-stats.result _ c.in-Are.is
+    c.by_number-numbered.ensures _ c.counts_at-stats.result _ c.in-Ok.is
     c.counts_at-stats.ensures c.call-called.ensures
 
 pub returns-in-Refused : goal.returns-in-Refused
@@ -42,4 +42,4 @@ returns-in-Refused c =
     called_refused counts (outcome c.call-called.result.answer (state _ _ c.call-called.result.stats)) _ _
     c.in-Refused.is c.code-in-Refused.ensures ∙ called_as args.first.now args.second.now args.agreement
     args.disagreement args.cap counts c.if-counts-ne-COUNTS.false c.by_number-numbered.result c.by_number-numbered.ensures _
-    c.counts_at-stats.result _ c.in-Are.is c.counts_at-stats.ensures c.call-called.ensures
+    c.counts_at-stats.result _ c.in-Ok.is c.counts_at-stats.ensures c.call-called.ensures

@@ -5,5 +5,5 @@ pub returns-in-Apart : goal.returns-in-Apart
 returns-in-Apart c =
     rw c.in-Apart.is
 
-pub returns-in-On : goal.returns-in-On
-returns-in-On c = rw c.in-On.is
+pub returns-in-Ok : goal.returns-in-Ok
+returns-in-Ok c = rw c.in-Ok.is

@@ -25,14 +25,14 @@ returns-in_default-at2 c =
     let args = c.args in
     c.negative-in_default-at2.ensures ∙ second_unplaced args.first.now args.second.now (rw c.flags_of-f.ensures at (sym c.unmapped.ensures ∙ c.if-unmapped.false))
     (rw c.flags_of-g.ensures at (sym c.unmapped-2.ensures ∙ c.if-unmapped-2.false))
-    c.in-At.pos1 (sym c.start_of-at1.ensures ∙ c.in-At.is) (sym c.start_of-at2.ensures ∙ c.in_default-at2.is)
+    c.in-Some.pos1 (sym c.start_of-at1.ensures ∙ c.in-Some.is) (sym c.start_of-at2.ensures ∙ c.in_default-at2.is)
 
 pub returns-then-not-same : goal.returns-then-not-same
 returns-then-not-same c =
     let args = c.args in
     ids_differ args.first.now args.second.now (rw c.flags_of-f.ensures at (sym c.unmapped.ensures ∙ c.if-unmapped.false))
     (rw c.flags_of-g.ensures at (sym c.unmapped-2.ensures ∙ c.if-unmapped-2.false))
-    c.in-At.pos1 (sym c.start_of-at1.ensures ∙ c.in-At.is)
+    c.in-Some.pos1 (sym c.start_of-at1.ensures ∙ c.in-Some.is)
     (sym c.same_reference-same.ensures ∙ c.if-not-same.true)
 
 pub returns : goal.returns
@@ -40,5 +40,5 @@ returns c =
     let args = c.args in
     both_placed args.first.now args.second.now (rw c.flags_of-f.ensures at (sym c.unmapped.ensures ∙ c.if-unmapped.false))
     (rw c.flags_of-g.ensures at (sym c.unmapped-2.ensures ∙ c.if-unmapped-2.false))
-    c.in-At.pos1 (sym c.start_of-at1.ensures ∙ c.in-At.is) c.in-At-at2.pos2 (sym c.start_of-at2.ensures ∙ c.in-At-at2.is)
+    c.in-Some.pos1 (sym c.start_of-at1.ensures ∙ c.in-Some.is) c.in-Some-at2.pos2 (sym c.start_of-at2.ensures ∙ c.in-Some-at2.is)
     (sym c.same_reference-same.ensures ∙ c.if-not-same.false)

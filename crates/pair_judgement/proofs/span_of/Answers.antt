@@ -14,4 +14,4 @@ pub returns : goal.returns
 returns c =
     let args = c.args in
     c.check_span.ensures ∙ span_as args.y args.s.now args.pos args.place c.check_operations-o.result _
-    c.check_operations-o.ensures c.in-Uses.is
+    c.check_operations-o.ensures c.in-Ok.is

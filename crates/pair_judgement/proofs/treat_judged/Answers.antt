@@ -13,14 +13,14 @@ returns-in_default c =
 pub returns-then-y-eq0 : goal.returns-then-y-eq0
 returns-then-y-eq0 c =
     let args = c.args in
-    empty_met args.first.now args.second.now c.locate-at.result c.locate-at.ensures _ _ c.in-On.is
+    empty_met args.first.now args.second.now c.locate-at.result c.locate-at.ensures _ _ c.in-Ok.is
     c.layout_of-y.result _ c.layout_of-y.ensures.0 refl (inl c.if-y-eq0.true) args.w args.g
     c.none_met-then-y-eq0.result.stats c.none_met-then-y-eq0.result.shared c.none_met-then-y-eq0.ensures
 
 pub returns-then-z-eq0 : goal.returns-then-z-eq0
 returns-then-z-eq0 c =
     let args = c.args in
-    empty_met args.first.now args.second.now c.locate-at.result c.locate-at.ensures _ _ c.in-On.is
+    empty_met args.first.now args.second.now c.locate-at.result c.locate-at.ensures _ _ c.in-Ok.is
     c.layout_of-y.result c.layout_of-z.result c.layout_of-y.ensures.0
     c.layout_of-z.ensures.0 (inr c.if-z-eq0.true) args.w args.g c.none_met-then-z-eq0.result.stats
     c.none_met-then-z-eq0.result.shared c.none_met-then-z-eq0.ensures
@@ -28,14 +28,14 @@ returns-then-z-eq0 c =
 pub merge-requires : goal.merge-requires
 merge-requires c =
     let args = c.args in
-    cleared_asks args.first.now args.second.now c.locate-at.result c.locate-at.ensures _ _ c.in-On.is
+    cleared_asks args.first.now args.second.now c.locate-at.result c.locate-at.ensures _ _ c.in-Ok.is
     c.layout_of-y.result c.layout_of-z.result c.layout_of-y.ensures.0
     c.layout_of-z.ensures.0 c.requires.0 c.if-y-eq0.false c.if-z-eq0.false args.g c.requires.1
 
 pub returns : goal.returns
 returns c =
     let args = c.args in
-    on_met args.first.now args.second.now c.locate-at.result c.locate-at.ensures _ _ c.in-On.is
+    on_met args.first.now args.second.now c.locate-at.result c.locate-at.ensures _ _ c.in-Ok.is
     c.layout_of-y.result c.layout_of-z.result c.layout_of-y.ensures.0
     c.layout_of-z.ensures.0 args.w args.g _ c.merge.result.shared
     (record { after = c.merge.ensures.treated; counted = c.merge.ensures.counted })

@@ -1,9 +1,9 @@
 -- `pair_judgement::unplaced` meets its contract. Assumes nothing.
 use Rattle.pair_judgement.proofs.unplaced.Goals as goal
 
-pub returns-in-Covers : goal.returns-in-Covers
-returns-in-Covers c =
-    rw c.in-Covers.is
+pub returns-in-Ok : goal.returns-in-Ok
+returns-in-Ok c =
+    rw c.in-Ok.is
 
 pub returns-in-Refused : goal.returns-in-Refused
 returns-in-Refused c =

@@ -1,8 +1,8 @@
 -- `pair_judgement::unspanned` meets its contract. Assumes nothing.
 use Rattle.pair_judgement.proofs.unspanned.Goals as goal
 
-pub returns-in-Uses : goal.returns-in-Uses
-returns-in-Uses c = rw c.in-Uses.is
+pub returns-in-Ok : goal.returns-in-Ok
+returns-in-Ok c = rw c.in-Ok.is
 
 pub returns-in-Refused : goal.returns-in-Refused
 returns-in-Refused c = rw c.in-Refused.is

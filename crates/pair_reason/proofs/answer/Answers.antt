@@ -12,31 +12,31 @@ returns-in_default c =
 pub returns-in_default-checked2 : goal.returns-in_default-checked2
 returns-in_default-checked2 c =
     let args = c.args in
-    c.refused-in_default-checked2.ensures ∙ answer_second args.first.now args.second.now c.in-Good.y (sym c.check_record-checked1.ensures ∙ c.in-Good.is)
+    c.refused-in_default-checked2.ensures ∙ answer_second args.first.now args.second.now c.in-Ok.y (sym c.check_record-checked1.ensures ∙ c.in-Ok.is)
     c.check_record-checked2.result _ c.check_record-checked2.ensures c.in_default-checked2.is
 
 pub locate-at-requires : goal.locate-at-requires
 locate-at-requires c = (
-  (good_sound _ 1 c.in-Good.y (sym c.check_record-checked1.ensures ∙ c.in-Good.is)).fixed,
-  (good_sound _ 2 c.in-Good-checked2.z (sym c.check_record-checked2.ensures ∙ c.in-Good-checked2.is)).fixed,
+  (good_sound _ 1 c.in-Ok.y (sym c.check_record-checked1.ensures ∙ c.in-Ok.is)).fixed,
+  (good_sound _ 2 c.in-Ok-checked2.z (sym c.check_record-checked2.ensures ∙ c.in-Ok-checked2.is)).fixed,
 )
 
 pub answer_on-requires : goal.answer_on-requires
 answer_on-requires c = (
-  good_sound _ 1 c.in-Good.y (sym c.check_record-checked1.ensures ∙ c.in-Good.is),
-  good_sound _ 2 c.in-Good-checked2.z (sym c.check_record-checked2.ensures ∙ c.in-Good-checked2.is),
-  sym c.locate-at.ensures ∙ c.in-On.is,
+  good_sound _ 1 c.in-Ok.y (sym c.check_record-checked1.ensures ∙ c.in-Ok.is),
+  good_sound _ 2 c.in-Ok-checked2.z (sym c.check_record-checked2.ensures ∙ c.in-Ok-checked2.is),
+  sym c.locate-at.ensures ∙ c.in-Ok.is,
 )
 
 pub returns-in-Apart : goal.returns-in-Apart
 returns-in-Apart c =
     let args = c.args in
-    answer_apart c.in-Good.y c.in-Good-checked2.z args.first.now args.second.now c.locate-at.result _ c.locate-at.ensures c.in-Apart.is
-    ∙ answer_both args.first.now args.second.now c.in-Good.y (sym c.check_record-checked1.ensures ∙ c.in-Good.is)
-    c.in-Good-checked2.z (sym c.check_record-checked2.ensures ∙ c.in-Good-checked2.is)
+    answer_apart c.in-Ok.y c.in-Ok-checked2.z args.first.now args.second.now c.locate-at.result _ c.locate-at.ensures c.in-Apart.is
+    ∙ answer_both args.first.now args.second.now c.in-Ok.y (sym c.check_record-checked1.ensures ∙ c.in-Ok.is)
+    c.in-Ok-checked2.z (sym c.check_record-checked2.ensures ∙ c.in-Ok-checked2.is)
 
-pub returns-in-On : goal.returns-in-On
-returns-in-On c =
+pub returns-in-Ok : goal.returns-in-Ok
+returns-in-Ok c =
     let args = c.args in
-    c.answer_on.ensures ∙ answer_both args.first.now args.second.now c.in-Good.y (sym c.check_record-checked1.ensures ∙ c.in-Good.is)
-    c.in-Good-checked2.z (sym c.check_record-checked2.ensures ∙ c.in-Good-checked2.is)
+    c.answer_on.ensures ∙ answer_both args.first.now args.second.now c.in-Ok.y (sym c.check_record-checked1.ensures ∙ c.in-Ok.is)
+    c.in-Ok-checked2.z (sym c.check_record-checked2.ensures ∙ c.in-Ok-checked2.is)

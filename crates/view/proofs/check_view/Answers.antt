@@ -9,10 +9,10 @@ returns-in_default c = good_well _ _ (sym c.check_record-checked.ensures ∙ c.i
 
 pub returns-then-number-lt4 : goal.returns-then-number-lt4
 returns-then-number-lt4 c =
-    bad_refused _ _ (sym c.check_record-checked.ensures ∙ c.in-Bad.is)
+    bad_refused _ _ (sym c.check_record-checked.ensures ∙ c.in-Err.is)
     (omega (arith, c.number.ensures, c.if-number-lt4.true))
 
 pub returns : goal.returns
 returns c =
-    bad_well _ _ (sym c.check_record-checked.ensures ∙ c.in-Bad.is)
+    bad_well _ _ (sym c.check_record-checked.ensures ∙ c.in-Err.is)
     (omega (arith, c.number.ensures, c.if-number-lt4.false))
