@@ -60,7 +60,7 @@ module _ (l : List ℕ) (from end : ℕ) (fits : end ≤ length l) where
     unfolding fault_or read_sum ref_sum
     walking_end k =
         let none : operations at end l ≡ [] = ops_short (take end l) at (omega (arith, long)) in
-        ap₂ Ok (totals (omega arith) (omega arith)) ∙ (rw none at h.left)
+        ap₂ (λ (x y : ℕ). Ok (totals x y)) (omega arith) (omega arith) ∙ (rw none at h.left)
 
     module _ (w : ℕ) (more : at + 4 ≤ end) (is : w ≡ unsigned 4 l at) where
       rest : List ℕ
@@ -146,28 +146,31 @@ module _ (y : Layout) (l : List ℕ) (place : ℕ) where
   unfolding operations_of read_sum
   good_uses uses e = go (walk_of (ops_in y l)) refl e
     where
-      total : (q r : ℕ) → Ok (totals (read_sum (ops_in y l)) (ref_sum (ops_in y l))) ≡ Ok (totals q r) → (ops : List ℕ) → ops ≡ (ops_in y l)
+      total : (q r : ℕ) → ◌≡◌ {A = Result Totals ℕ} (Ok (totals (read_sum (ops_in y l)) (ref_sum (ops_in y l)))) (Ok (totals q r)) → (ops : List ℕ) → ops ≡ (ops_in y l)
           → (s t u : Bool) → ltb 0 y.count ≡ s → ltb 0 (length ops) ≡ t → eqb q y.count ≡ u
           → cond (s && t && not u) (Err (ReadTotal place)) (Ok r) ≡ Ok uses → Used uses
       total q r f ops eo true true true es et eu g =
-          let a : ref_sum (ops_in y l) ≡ r = cc in
-          let b : read_sum (ops_in y l) ≡ q = cc in
+          let t : totals (read_sum (ops_in y l)) (ref_sum (ops_in y l)) ≡ totals q r = cc in
+          let a : ref_sum (ops_in y l) ≡ r = ap (λ (x : Totals). x.reference) t in
+          let b : read_sum (ops_in y l) ≡ q = ap (λ (x : Totals). x.read) t in
           let c : r ≡ uses = cc in
           record { reference = omega arith; read = λ h. omega (arith, eqb-true q y.count eu) }
       total q r f ops eo true true false es et eu g = let z : ◌≡◌ {A = ℕ} 0 1 = cc in absurd (omega arith)
       total q r f [] eo true false u es et eu g =
-          let a : ref_sum (ops_in y l) ≡ r = cc in
+          let t : totals (read_sum (ops_in y l)) (ref_sum (ops_in y l)) ≡ totals q r = cc in
+          let a : ref_sum (ops_in y l) ≡ r = ap (λ (x : Totals). x.reference) t in
           let c : r ≡ uses = cc in
           let d : read_sum (ops_in y l) ≡ 0 = ap read_sum (sym eo) in
           record { reference = omega arith; read = λ h. omega arith }
       total q r f (x ∷ ops) eo true false u es et eu g = absurd (omega (arith, ltb-false 0 (suc (length ops)) et))
-      total q r f ops eo false t u es et eu g =
-          let a : ref_sum (ops_in y l) ≡ r = cc in
+      total q r f ops eo false v u es et eu g =
+          let t : totals (read_sum (ops_in y l)) (ref_sum (ops_in y l)) ≡ totals q r = cc in
+          let a : ref_sum (ops_in y l) ≡ r = ap (λ (x : Totals). x.reference) t in
           let c : r ≡ uses = cc in
           record { reference = omega arith; read = λ h. absurd (omega (arith, ltb-false 0 y.count es)) }
 
       go : (w : Result Totals ℕ) → walk_of (ops_in y l) ≡ w → judged y.count (length (ops_in y l)) place w ≡ Ok uses → Used uses
-      go (Ok (totals q r)) f g = total q r (good_totals (ops_in y l) 0 _ q r f) (ops_in y l) refl (ltb 0 y.count) (ltb 0 (length (ops_in y l))) (eqb q y.count) refl refl refl g
+      go (Ok t) f g = total t.read t.reference (good_totals (ops_in y l) 0 _ t.read t.reference f) (ops_in y l) refl (ltb 0 y.count) (ltb 0 (length (ops_in y l))) (eqb t.read y.count) refl refl refl g
       go (Err i) f g = let z : ◌≡◌ {A = ℕ} 0 1 = cc in absurd (omega arith)
 
 pub record Covered (pos uses : ℕ) (e : Extent) : Type 0 where

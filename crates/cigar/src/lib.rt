@@ -119,16 +119,17 @@ pub fn check_operations(s: &[u8], y: Layout, place: u16) -> Result<usize, Refusa
     let w = walk_operations(s, from, end);
     match w {
         Err(i) => Err(Refusal::OperationCode(place, i)),
-        Ok(Totals { read, reference }) => {
+        Ok(totals) => {
             let count = y.count;
             if count == 0 {
-                return Ok(reference);
+                return Ok(totals.reference);
             }
             if end - from < 4 {
-                return Ok(reference);
+                return Ok(totals.reference);
             }
+            let read = totals.read;
             if read == count {
-                return Ok(reference);
+                return Ok(totals.reference);
             }
             Err(Refusal::ReadTotal(place))
         }
