@@ -18,7 +18,7 @@ use Rattle.fields.specs.Sound.{Lies}
 use Rattle.refusal.specs.declared.Refusal.TheVariants.{ReadTotal, ReferenceEnd}
 use Rattle.cigar.specs.declared.Extent.{Extent}
 use Rattle.cigar.specs.Operation.{ops_in}
-use Rattle.cigar.specs.Judge.{walk_of, judged, operations_of, extent, span_of, totals}
+use Rattle.cigar.specs.Judge.{walk_of, judged, operations_of, extent, span_of}
 use Rattle.stats.specs.declared.CorrectionStats.{CorrectionStats}
 use Rattle.stats.specs.Room.{Room}
 use Rattle.stats.proofs.CountLaws.{room_less}
@@ -34,9 +34,9 @@ use Rattle.pair_judgement.proofs.TreatLaws.{on_uses_lem, Spanned, spanned, spann
 
 -- ---- a record that passes step 7 passes it at any place, with what it covers
 uses_any : (count n i j : ℕ) (k : Result Totals ℕ) (m : ℕ) → judged count n i k ≡ Ok m → judged count n j k ≡ Ok m
-uses_any count n i j (Ok (totals read reference)) m e = go (ltb 0 count && ltb 0 n && not (eqb read count)) e
+uses_any count n i j (Ok w) m e = go (ltb 0 count && ltb 0 n && not (eqb w.read count)) e
   where
-    go : (t : Bool) → cond t (Err (ReadTotal i)) (Ok reference) ≡ Ok m → cond t (Err (ReadTotal j)) (Ok reference) ≡ Ok m
+    go : (t : Bool) → cond t (Err (ReadTotal i)) (Ok w.reference) ≡ Ok m → cond t (Err (ReadTotal j)) (Ok w.reference) ≡ Ok m
     go true f = let z : ◌≡◌ {A = ℕ} 0 1 = cc in absurd (omega arith)
     go false f = f
 uses_any count n i j (Err k) m e = let z : ◌≡◌ {A = ℕ} 0 1 = cc in absurd (omega arith)

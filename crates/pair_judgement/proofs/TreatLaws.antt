@@ -1,5 +1,5 @@
 -- What is known of two records that were judged to be on one reference, and what treating them asks.
-use Rattle.std.specs.Prelude.{Result, Ok, Err, Some, None}
+use Rattle.std.specs.Prelude.{Result, Ok, Err, Some, None, Option as Optional}
 use Rattle.refusal.specs.declared.Refusal.{Refusal}
 use Rattle.pair_judgement.specs.declared.Untreated.TheVariants as Untreateds
 use Prim.Native.Nat.{ℕ, ◌+◌, ◌*◌, ◌≤◌, ◌<◌}
@@ -45,7 +45,7 @@ on_span_lem : (x : Result Extent Refusal) (f : Extent → Judged) (p q : Extent)
 on_span_lem (Ok s) f p q e = (s, (refl, e))
 on_span_lem (Err r) f p q e = let z : ◌≡◌ {A = ℕ} 0 1 = cc in absurd (omega arith)
 
-on_placed : (x : Option ℕ) (f : ℕ → Judged) (p q : Extent) → on_position x f ≡ Ok (p , q) → (n : ℕ) × ((x ≡ Some n) × (f n ≡ Ok (p , q)))
+on_placed : (x : Optional ℕ) (f : ℕ → Judged) (p q : Extent) → on_position x f ≡ Ok (p , q) → (n : ℕ) × ((x ≡ Some n) × (f n ≡ Ok (p , q)))
 on_placed (Some n) f p q e = (n, (refl, e))
 on_placed None f p q e = let z : ◌≡◌ {A = ℕ} 0 1 = cc in absurd (omega arith)
 
@@ -85,6 +85,9 @@ pub some_covered : {y : Layout} {s : List ℕ} {pos : ℕ} {p : Extent} → Span
 some_covered {p = p} h e z = eqb-false p.start.0 p.end.0 e (omega (arith, h.past))
 
 -- ---- both records
+ok_both : (s t p q : Extent) → ◌≡◌ {A = Judged} (Ok (s , t)) (Ok (p , q)) → (s ≡ p) × (t ≡ q)
+ok_both s t p q e = let k : ◌≡◌ {A = Extent × Extent} (s , t) (p , q) = cc in (ap (λ (x : Extent × Extent). x.0) k, ap (λ (x : Extent × Extent). x.1) k)
+
 pub record Known (y z : Layout) (a b : List ℕ) (p q : Extent) : Type 0 where
   pub mapped₁ : has_bit (header a).flags unmapped ≡ false
   pub mapped₂ : has_bit (header b).flags unmapped ≡ false
@@ -105,8 +108,7 @@ both_known y z a b i j p q e =
     let n₂ = on_placed (position_of (header b).pos) _ p q n₁.1.1 in
     let s₁ = on_span_lem (span_in y a n₁.0 i) _ p q n₂.1.1 in
     let s₂ = on_span_lem (span_in z b n₂.0 j) _ p q s₁.1.1 in
-    let e₁ : s₁.0 ≡ p = cc s₂.1.1 in
-    let e₂ : s₂.0 ≡ q = cc s₂.1.1 in
+    let e = ok_both s₁.0 s₂.0 p q s₂.1.1 in
     record {
       mapped₁ = m.0;
       mapped₂ = m.1;
@@ -115,8 +117,8 @@ both_known y z a b i j p q e =
       pos₂ = n₂.0;
       placed₁ = n₁.1.0;
       placed₂ = n₂.1.0;
-      span₁ = spanned y a n₁.0 i p (s₁.1.0 ∙ ap Ok e₁);
-      span₂ = spanned z b n₂.0 j q (s₂.1.0 ∙ ap Ok e₂);
+      span₁ = spanned y a n₁.0 i p (s₁.1.0 ∙ ap Ok e.0);
+      span₂ = spanned z b n₂.0 j q (s₂.1.0 ∙ ap Ok e.1);
     }
 
 -- ---- without bases nothing is shared

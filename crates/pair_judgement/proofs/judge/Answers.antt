@@ -21,7 +21,7 @@ returns-in_default-span2 c =
     let args = c.args in
     c.unplaced-in_default-span2.ensures ∙ second_span args.y args.z args.first.now args.second.now args.place1 args.place2
     c.locate-at.result c.locate-at.ensures c.in-Ok.pos1 c.in-Ok.pos2 c.in-Ok.is _
-    c.span_of-span1.result c.span_of-span2.result _ c.span_of-span1.ensures c.in-Ok.is
+    c.span_of-span1.result c.span_of-span2.result _ c.span_of-span1.ensures c.in-Ok-span1.is
     c.span_of-span2.ensures c.in_default-span2.is
 
 pub returns : goal.returns
@@ -29,5 +29,5 @@ returns c =
     let args = c.args in
     both_spans args.y args.z args.first.now args.second.now args.place1 args.place2
     c.locate-at.result c.locate-at.ensures c.in-Ok.pos1 c.in-Ok.pos2 c.in-Ok.is _ _
-    c.span_of-span1.result c.span_of-span2.result c.span_of-span1.ensures c.in-Ok.is
+    c.span_of-span1.result c.span_of-span2.result c.span_of-span1.ensures c.in-Ok-span1.is
     c.span_of-span2.ensures c.in-Ok-span2.is
