@@ -20,16 +20,16 @@ returns-then-s-begin c =
     let loop = c.loop-k in
     (said_none args.s.now loop.begins loop.k loop.begin loop.invariant.0 c.if-s-begin.true, loop.invariant.0.placed)
 
-pub shape_of-begins-in-Refused : goal.shape_of-begins-in-Refused
-shape_of-begins-in-Refused c =
+pub shape_of-begins-in-Err : goal.shape_of-begins-in-Err
+shape_of-begins-in-Err c =
     let args = c.args in
     c.loop-k.invariant.1 ∙ length-set args.begins.now 0 0
 
-pub returns-in-Refused : goal.returns-in-Refused
-returns-in-Refused c =
+pub returns-in-Err : goal.returns-in-Err
+returns-in-Err c =
     let loop = c.loop-k in (
       said_refused c.args.s.now loop.begins loop.k loop.begin loop.invariant.0 c.loop-k-test.true
-          (omega arith) c.frame_at-f.result _ c.frame_at-f.ensures c.in-Refused.is _ refl,
+          (omega arith) c.frame_at-f.result _ c.frame_at-f.ensures c.in-Err.is _ refl,
       omega arith,
     )
 
