@@ -1,10 +1,22 @@
 -- The trailer of a filed group: what it says, when it is wrong, and how it is made.
-use Rattle.std.specs.Prelude.{ℕ, ◌+◌, Bool, not, ◌||◌, ◌&&◌, List, ◌++◌, ltb, eqb, drop, set, replicate}
+use Rattle.std.specs.Prelude.{ℕ, ◌+◌, ◌<◌, ◌≡◌, Bool, not, ◌||◌, ◌&&◌, List, ◌++◌, ltb, eqb, drop, set, replicate, Result, MatchResult}
 use Rattle.fields.specs.Number.{unsigned, put}
 use Rattle.stats.specs.declared.CorrectionStats.{CorrectionStats}
 use Rattle.stats.specs.Counts.{above}
 use Rattle.stats.specs.Tally.{counts_at, with_counts}
 use Rattle.filed_trailer.specs.declared.Trailer.{Trailer}
+use Rattle.filed_trailer.specs.declared.State.{State}
+use Rattle.filed_trailer.specs.declared.State.TheVariants.{Raw, Corrected}
+use Rattle.filed_trailer.specs.declared.UnknownState.{UnknownState}
+
+-- the byte of a state
+abbrev pub state_byte : State → ℕ
+state_byte Raw = 0
+state_byte Corrected = 1
+
+-- the state of this byte; an error for a byte above 1
+abbrev pub Names : ℕ → Result State UnknownState → Type 0
+Names byte r = MatchResult r (λ state. state_byte state ≡ byte) (λ e. (e.0 ≡ byte) × (1 < byte))
 
 -- each field of the trailer that begins at p, from its width and its offset
 abbrev pub trailer_at : List ℕ → ℕ → Trailer

@@ -7,4 +7,4 @@ pub returns : goal.returns
 returns c =
     let args = c.args in
     let s = args.s.now in
-    rw (c.u32_at-records.ensures, c.counts_at-growth.ensures, c.u64_at-distance.ensures, one_byte s (args.at + 4), one_byte s (args.at + 5))
+    rw (c.u32_at.ensures, c.counts_at.ensures, c.u64_at.ensures, one_byte s (args.at + 4), one_byte s (args.at + 5))
