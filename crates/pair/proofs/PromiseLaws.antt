@@ -161,20 +161,20 @@ module _ (w : Strategies) (s : State) where
   says_answer [] = none_said NoSharedPosition
   says_answer (x ∷ l) = some_said x l
 
-  abbrev Some : RefPos → RefPos → Type 0
-  Some p q = (i : ReadOffset) × ((j : ReadOffset) × Share y z p q s i j)
+  abbrev SomeShared : RefPos → RefPos → Type 0
+  SomeShared p q = (i : ReadOffset) × ((j : ReadOffset) × Share y z p q s i j)
 
-  some_position : (p q : RefPos) (l : List (ℕ × ℕ)) (r : Answer) → Names y z p q s l → Says l r → r ≡ Answers.Overlap → Some p q
+  some_position : (p q : RefPos) (l : List (ℕ × ℕ)) (r : Answer) → Names y z p q s l → Says l r → r ≡ Answers.Overlap → SomeShared p q
   unfolding Among
   some_position p q l r n (none_said x) e = let h : ◌≡◌ {A = ℕ} 0 1 = cc in absurd (omega arith)
   some_position p q l r n (some_said x m) e = (in_read x.0, (in_read x.1, n.only (in_read x.0) (in_read x.1) (inl (refl, refl))))
 
-  answered : (p q : RefPos) (l : List (ℕ × ℕ)) (r : Answer) → Names y z p q s l → Says l r → Some p q → r ≡ Answers.Overlap
+  answered : (p q : RefPos) (l : List (ℕ × ℕ)) (r : Answer) → Names y z p q s l → Says l r → SomeShared p q → r ≡ Answers.Overlap
   unfolding Among
   answered p q l r n (none_said x) h = absurd (n.all h.0 h.1.0 h.1.1)
   answered p q l r n (some_said x m) h = refl
 
-  none_shared : (p q : RefPos) (l : List (ℕ × ℕ)) (r : Answer) → Names y z p q s l → Says l r → (Some p q → ⊥) → (x : Reason) × (r ≡ Answers.NoOverlap x)
+  none_shared : (p q : RefPos) (l : List (ℕ × ℕ)) (r : Answer) → Names y z p q s l → Says l r → (SomeShared p q → ⊥) → (x : Reason) × (r ≡ Answers.NoOverlap x)
   none_shared p q l r n (none_said x) h = (x, refl)
   none_shared p q l r n (some_said x m) h = absurd (h (some_position p q (x ∷ m) Answers.Overlap n (some_said x m) refl))
 

@@ -20,7 +20,7 @@ use Rattle.fields.specs.Position.{position_of, same_id}
 use Rattle.fields.specs.Check.{check_of}
 use Rattle.cigar.specs.declared.Extent.{Extent}
 use Rattle.cigar.specs.Operation.{ops_in}
-use Rattle.cigar.specs.Judge.{walk_of, judged, operations_of, extent, span_of, totals}
+use Rattle.cigar.specs.Judge.{walk_of, judged, operations_of, extent, span_of}
 use Rattle.pair_merge.specs.Shared.{shared}
 use Rattle.pair_judgement.specs.declared.Reason.TheVariants.{Unmapped, ReferencesDiffer, NoReferenceLength}
 use Rattle.pair_judgement.specs.Judgement.{on_uses, on_span, on_position, span_in, mapped_of, judged_of, Judged}
@@ -52,9 +52,9 @@ module _ (p : ℕ) where
       (λ r e. let z : ◌≡◌ {A = ℕ} 0 1 = cc in absurd (omega arith)))))
 
   judged_names : (count n : ℕ) (k : Result Totals ℕ) → Names Err p (judged count n p k)
-  judged_names count n (Ok (totals read reference)) r e = go (ltb 0 count && ltb 0 n && not (eqb read count)) e
+  judged_names count n (Ok w) r e = go (ltb 0 count && ltb 0 n && not (eqb w.read count)) e
     where
-      go : (t : Bool) → cond t (Err (ReadTotal p)) (Ok reference) ≡ Err r → AtPlace p r
+      go : (t : Bool) → cond t (Err (ReadTotal p)) (Ok w.reference) ≡ Err r → AtPlace p r
       go true f = let g : ReadTotal p ≡ r = cc in rw (← g) (refl, omega arith)
       go false f = let z : ◌≡◌ {A = ℕ} 0 1 = cc in absurd (omega arith)
   judged_names count n (Err i) r e = let f : OperationCode p i ≡ r = cc in rw (← f) (refl, omega arith)

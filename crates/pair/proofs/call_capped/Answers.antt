@@ -1,5 +1,5 @@
 -- `pair::call_capped` meets its contract. Assumes nothing.
-use mathlib.Core.Path.{sym, ap, ◌∙◌}
+use mathlib.Core.Path.{◌≡◌, sym, ap, ◌∙◌}
 use Rattle.fields.proofs.CheckLaws.{good_sound}
 use Rattle.stats.proofs.CountLaws.{room_less, full_room}
 use Rattle.positions.specs.Step.{state}
@@ -7,6 +7,8 @@ use Rattle.pair.specs.declared.Answer.{Answer}
 use Rattle.pair.specs.Pair.{outcome}
 use Rattle.pair.proofs.CallLaws.{call_full, call_first, call_second, call_judged}
 use native.Mathlib.Omega.{arith}
+use Rattle.std.specs.Prelude.{Err}
+use Rattle.pair_judgement.specs.declared.Untreated.TheVariants as Untreateds
 use Rattle.pair.proofs.call_capped.Goals as goal
 
 pub returns-then-full : goal.returns-then-full
@@ -53,34 +55,40 @@ call_both-requires c =
         place₁ = 1;
         place₂ = 2;
         both
-            = sym c.judge-judged.ensures ∙ c.in-Ok.is;
+            = sym c.judge-judged.ensures ∙ c.in-Ok-judged.is;
       },
       room_less args.stats 131072 _ (omega arith) (full_room args.stats (sym c.full.ensures ∙ c.if-full.false)),
     )
 
-pub returns-in-Refused : goal.returns-in-Refused
-returns-in-Refused c =
+pub returns-in-Err-Refused : goal.returns-in-Err-Refused
+returns-in-Err-Refused c =
     let args = c.args in
+    let arm = c.in-Err-Refused in
+    let f : arm.field-0 ≡ Untreateds.Refused arm.r = (rw arm.is at arm.field-0-is) in
+    let e : c.judge-judged.result ≡ Err (Untreateds.Refused arm.r) = arm.is ∙ ap Err f in
     call_judged args.w (state args.first.now args.second.now args.stats) (sym c.full.ensures ∙ c.if-full.false)
     c.in-Ok.y (sym c.check_record-checked1.ensures ∙ c.in-Ok.is)
     c.in-Ok-checked2.z c.judge-judged.result _
     (sym c.check_record-checked2.ensures ∙ c.in-Ok-checked2.is) c.judge-judged.ensures
-    c.in-Refused.is
+    e
 
-pub returns-in-Apart : goal.returns-in-Apart
-returns-in-Apart c =
+pub returns-in-Err-Apart : goal.returns-in-Err-Apart
+returns-in-Err-Apart c =
     let args = c.args in
+    let arm = c.in-Err-Apart in
+    let f : arm.field-0 ≡ Untreateds.Apart arm.r = (rw arm.is at arm.field-0-is) in
+    let e : c.judge-judged.result ≡ Err (Untreateds.Apart arm.r) = arm.is ∙ ap Err f in
     call_judged args.w (state args.first.now args.second.now args.stats) (sym c.full.ensures ∙ c.if-full.false)
     c.in-Ok.y (sym c.check_record-checked1.ensures ∙ c.in-Ok.is)
     c.in-Ok-checked2.z c.judge-judged.result _
     (sym c.check_record-checked2.ensures ∙ c.in-Ok-checked2.is) c.judge-judged.ensures
-    c.in-Apart.is
+    e
 
-pub returns-in-Ok : goal.returns-in-Ok
-returns-in-Ok c =
+pub returns-in-Ok-judged : goal.returns-in-Ok-judged
+returns-in-Ok-judged c =
     let args = c.args in
     c.call_both.ensures ∙ call_judged args.w (state args.first.now args.second.now args.stats)
     (sym c.full.ensures ∙ c.if-full.false) c.in-Ok.y
     (sym c.check_record-checked1.ensures ∙ c.in-Ok.is) c.in-Ok-checked2.z
     c.judge-judged.result _ (sym c.check_record-checked2.ensures ∙ c.in-Ok-checked2.is)
-    c.judge-judged.ensures c.in-Ok.is
+    c.judge-judged.ensures c.in-Ok-judged.is
