@@ -55,7 +55,7 @@ impl Row {
     fn code(self) -> u32
         ensures { (result ≡ 1000 + 100 * self.at + self.number) × (result < 10000000) }
     {
-        1000 + 100 * (self.at as u32) + self.number as u32
+        1000 + 100 * u32::from(self.at) + u32::from(self.number)
     }
 }
 
@@ -117,12 +117,13 @@ impl Refusal {
     {
         self.row().code()
     }
+
     // The same with 10,000 times the index of the operation at fault: the answer of the call that gives
     // the reason.
     pub fn operation_code(self) -> u32
         ensures { result ≡ operation_code_of self }
     {
         let row = self.row();
-        row.code() + 10000 * (row.operation as u32)
+        row.code() + 10000 * u32::from(row.operation)
     }
 }
