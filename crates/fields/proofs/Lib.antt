@@ -1,5 +1,6 @@
 pub mod Arith
 pub mod NumberLaws
+pub mod ByteLaws
 pub mod PositionLaws
 pub mod CheckLaws
 pub mod AmongLaws

@@ -1,7 +1,7 @@
 -- Laws of numbers of several bytes, each proved once over the width: what is read, and what is stored. Assumes nothing.
 use mathlib.Core.Path.{◌≡◌, refl, ◌∙◌}
 use mathlib.Core.List.{List, ◌++◌}
-use Prim.Native.Nat.{ℕ, zero, suc, ◌+◌, ◌*◌, ◌^◌, ◌<◌, ◌≤◌, ◌-◌, ◌%◌, ◌/◌}
+use Prim.Native.Nat.{ℕ, zero, suc, ◌+◌, ◌*◌, ◌^◌, ◌<◌, ◌≤◌, ◌%◌, ◌/◌}
 use native.Mathlib.Nat.{add-zero, zero-add, suc-add, mul_assoc, pow-succ', pow-zero}
 use native.Mathlib.Omega.{arith}
 use lib.ListN.{get_or, set, length, length-set}
@@ -36,14 +36,6 @@ le_behind zero s t at = refl
 le_behind (suc w) s t at =
     let a : length s + at + 1 ≡ length s + (at + 1) = omega arith in
     rw (a, get_or-append-add s t at 0, le_behind w s t (at + 1))
-
--- one byte of a store, the i-th of n
-pub put_step : (n i : ℕ) (d : List ℕ) (at x : ℕ) → i < n → put (n - i) d (at + i) x ≡ put (n - (i + 1)) (set d (at + i) (x % 256)) (at + (i + 1)) (x / 256)
-unfolding put
-put_step n i d at x h =
-    let e : n - i ≡ suc (n - (i + 1)) = omega arith in
-    let a : at + (i + 1) ≡ at + i + 1 = omega arith in
-    rw (e, a)
 
 -- a store keeps the length
 pub length_put : (w : ℕ) (s : List ℕ) (at v : ℕ) → length (put w s at v) ≡ length s

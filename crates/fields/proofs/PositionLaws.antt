@@ -2,34 +2,16 @@
 use Rattle.std.specs.Prelude.{Some, None}
 use mathlib.Core.Path.{◌≡◌, refl, ap, sym, ◌∙◌}
 use mathlib.Core.Bool.{Bool, true, false, true≢false, false≢true}
-use Prim.Native.Nat.{ℕ, zero, suc, ◌-◌, ◌^◌, ◌<◌, ◌≤◌}
-use native.Mathlib.Nat.{zero-add}
+use Prim.Native.Nat.{◌^◌, ◌<◌}
 use native.Mathlib.Omega.{arith}
 use lib.Dec.{T, eqb}
-use lib.IntN.{ℤ, pos, negsuc, ◌-ℤ◌, nat_abs}
+use lib.IntN.{ℤ, pos, negsuc, nat_abs}
 use lib.Signed.{lt_z, non_neg}
-use borrow.Author.Tests.{le-ltb, ltb-true, eq-eqb, eqb-true}
+use borrow.Author.Tests.{ltb-true, eq-eqb, eqb-true}
 use mir.Syntax.{w32}
 use mir.Val.{SFits, Fits, to_z, of_z}
-use mir.Facts.{to_z_pos, to_z-of_z}
-use Rattle.fields.specs.Number.{signed32}
+use mir.Facts.{to_z-of_z}
 use Rattle.fields.specs.Position.{position_of, same_id}
-
-minus_one : (k : ℕ) → negsuc 0 -ℤ pos k ≡ negsuc k
-minus_one zero = refl
-minus_one (suc k) = rw (zero-add k)
-
--- the number below zero whose bits are u, made as -1 less a number that is not below zero
-module _ (u : ℕ) (h : 2147483648 ≤ u) (l : u < 4294967296) where
-  below : negsuc 0 -ℤ to_z w32 (4294967295 - u) ≡ negsuc (4294967295 - u)
-  below = let p : 4294967295 - u < 2 ^ 31 = omega arith in rw (to_z_pos w32 p) (minus_one (4294967295 - u))
-
-  pub below_fits : SFits w32 (negsuc 0 -ℤ to_z w32 (4294967295 - u))
-  below_fits = rw below (record { sfits = omega arith })
-
-  pub below_is : to_z w32 (of_z w32 (negsuc 0 -ℤ to_z w32 (4294967295 - u))) ≡ signed32 u
-  unfolding signed32
-  below_is = to_z-of_z below_fits ∙ below ∙ simp (le-ltb u 2147483648 h)
 
 -- a position below zero is none
 pub negative : (p : ℤ) → lt_z p (pos 0) ≡ true → None ≡ position_of p

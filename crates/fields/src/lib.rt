@@ -1,7 +1,7 @@
 // The numbers, the layout and the flags of a BAM record, and the check that its parts lie within it.
 #![tactic(auto)]
 
-ghost use Rattle.std.specs.Prelude.{◌≡◌, ◌+◌, ◌<◌, ◌≤◌, length};
+ghost use Rattle.std.specs.Prelude.{◌≡◌, ◌+◌, ◌<◌, ◌≤◌, length, take, drop};
 ghost use Rattle.fields.specs.Number.{unsigned, put, signed32};
 ghost use Rattle.fields.specs.Flag.{has_bit, unmapped, first_segment, last_segment, secondary, supplementary};
 ghost use Rattle.fields.specs.Position.{position_of, same_id};
@@ -16,11 +16,12 @@ pub const FIXED: usize = 32;
 // How many bytes a record may have.
 const LONGEST: usize = 65536;
 
-// The byte as a wider number.
-fn wide(x: u8) -> u16
-    ensures { (result ≡ x) × (result < 256) }
+// The bytes from `at` on, as many as the type of the result has.
+fn bytes_at<const W: usize>(s: &[u8], at: usize) -> [u8; W]
+    requires { at + W ≤ length s.now }
+    ensures { result ≡ take W (drop at s.now) }
 {
-    x as u16
+    s[at..].first_chunk().copied().unwrap()
 }
 
 // The number that the two bytes from `at` on hold, least byte first.
@@ -28,9 +29,7 @@ pub fn u16_at(s: &[u8], at: usize) -> u16
     requires { at + 2 ≤ length s.now }
     ensures { result ≡ unsigned 2 s.now at }
 {
-    let low = wide(s[at]);
-    let high = wide(s[at + 1]);
-    low + 256 * high
+    u16::from_le_bytes(bytes_at(s, at))
 }
 
 // The number that the four bytes from `at` on hold, least byte first.
@@ -38,7 +37,7 @@ pub fn u32_at(s: &[u8], at: usize) -> u32
     requires { at + 4 ≤ length s.now }
     ensures { result ≡ unsigned 4 s.now at }
 {
-    u16_at(s, at) as u32 + 65536 * (u16_at(s, at + 2) as u32)
+    u32::from_le_bytes(bytes_at(s, at))
 }
 
 // The number that the eight bytes from `at` on hold, least byte first.
@@ -46,7 +45,7 @@ pub fn u64_at(s: &[u8], at: usize) -> u64
     requires { at + 8 ≤ length s.now }
     ensures { result ≡ unsigned 8 s.now at }
 {
-    u32_at(s, at) as u64 + 4294967296 * (u32_at(s, at + 4) as u64)
+    u64::from_le_bytes(bytes_at(s, at))
 }
 
 // The signed number that the four bytes from `at` on hold, in two's complement.
@@ -54,24 +53,7 @@ pub fn i32_at(s: &[u8], at: usize) -> i32
     requires { at + 4 ≤ length s.now }
     ensures { result ≡ signed32 (unsigned 4 s.now at) }
 {
-    let u = u32_at(s, at);
-    if u < 2147483648 {
-        return u as i32;
-    }
-    let k = (4294967295 - u) as i32;
-    -1 - k
-}
-
-// Stores the low bytes of a number, as many as `width` says, from `at` on, least byte first.
-fn put_bytes(d: &mut [u8], at: usize, width: usize, v: u64)
-    requires { at + width ≤ length d.old }
-    ensures { d.new ≡ put width d.old at v }
-{
-    let mut rest = v;
-    for i in 0..width {
-        d[at + i] = (rest % 256) as u8;
-        rest = rest / 256;
-    }
+    i32::from_le_bytes(bytes_at(s, at))
 }
 
 // Stores a number in the four bytes from `at` on, least byte first. All other bytes stay.
@@ -79,7 +61,7 @@ pub fn put_u32(d: &mut [u8], at: usize, v: u32)
     requires { at + 4 ≤ length d.old }
     ensures { d.new ≡ put 4 d.old at v }
 {
-    put_bytes(d, at, 4, v as u64);
+    d[at..at + 4].copy_from_slice(&v.to_le_bytes());
 }
 
 // Stores a number in the eight bytes from `at` on, least byte first. All other bytes stay.
@@ -87,7 +69,7 @@ pub fn put_u64(d: &mut [u8], at: usize, v: u64)
     requires { at + 8 ≤ length d.old }
     ensures { d.new ≡ put 8 d.old at v }
 {
-    put_bytes(d, at, 8, v);
+    d[at..at + 8].copy_from_slice(&v.to_le_bytes());
 }
 
 // The flags of a record, each a bit of one number. The constants are the weights of the bits.
@@ -110,41 +92,52 @@ impl Flags {
     // The record is a further piece of a read that is placed in pieces.
     pub const SUPPLEMENTARY: u16 = 2048;
 
+    // Whether the bit of this weight is set.
+    fn has(self, weight: u16) -> bool
+        requires { 0 < weight }
+        ensures { result ≡ has_bit self.0 weight }
+    {
+        self.0 / weight % 2 == 1
+    }
+
     // Whether UNMAPPED is set.
     pub fn unmapped(self) -> bool
         ensures { result ≡ has_bit self.0 unmapped }
     {
-        self.0 / Self::UNMAPPED % 2 == 1
+        self.has(Self::UNMAPPED)
     }
 
     // Whether FIRST_SEGMENT is set.
     pub fn first_segment(self) -> bool
         ensures { result ≡ has_bit self.0 first_segment }
     {
-        self.0 / Self::FIRST_SEGMENT % 2 == 1
+        self.has(Self::FIRST_SEGMENT)
     }
 
     // Whether LAST_SEGMENT is set.
     pub fn last_segment(self) -> bool
         ensures { result ≡ has_bit self.0 last_segment }
     {
-        self.0 / Self::LAST_SEGMENT % 2 == 1
+        self.has(Self::LAST_SEGMENT)
     }
 
     // Whether SECONDARY is set.
     pub fn secondary(self) -> bool
         ensures { result ≡ has_bit self.0 secondary }
     {
-        self.0 / Self::SECONDARY % 2 == 1
+        self.has(Self::SECONDARY)
     }
 
     // Whether SUPPLEMENTARY is set.
     pub fn supplementary(self) -> bool
         ensures { result ≡ has_bit self.0 supplementary }
     {
-        self.0 / Self::SUPPLEMENTARY % 2 == 1
+        self.has(Self::SUPPLEMENTARY)
     }
 }
+
+// Kept: each read below asks for the 32 bytes itself: the plain reads under the thin view are a form that is decided on, and
+// `flags_of`, `start_of` and `same_reference` are public by name with this one clause.
 
 // The id of the reference that the record is placed on; negative where it has none.
 pub fn ref_id(s: &[u8]) -> i32
@@ -175,12 +168,8 @@ pub fn name_of(s: &[u8]) -> &[u8]
     requires { 32 + (header s.now).name_length ≤ length s.now }
     ensures { result.now ≡ name_in s.now }
 {
-    let n = l_read_name(s) as usize;
-    if n == 0 {
-        return &s[FIXED..FIXED];
-    }
-    let end = FIXED + (n - 1);
-    &s[FIXED..end]
+    let n = usize::from(l_read_name(s));
+    &s[FIXED..][..n.saturating_sub(1)]
 }
 
 // How many operations the alignment has.
@@ -211,10 +200,7 @@ pub fn l_seq(s: &[u8]) -> u32
 pub fn position_of(p: i32) -> Option<u32>
     ensures { result ≡ position_of p }
 {
-    if p < 0 {
-        return None;
-    }
-    Some(p as u32)
+    u32::try_from(p).ok()
 }
 
 // Whether two reference ids are the same one. Two ids of -1 are.
@@ -262,8 +248,8 @@ pub fn layout_of(s: &[u8]) -> Layout
     requires { 32 ≤ length s.now }
     ensures { (result ≡ layout_of s.now) × (result.qualities + result.count < 8589934592) }
 {
-    let operations = FIXED + l_read_name(s) as usize;
-    let bases = operations + 4 * (n_cigar_op(s) as usize);
+    let operations = FIXED + usize::from(l_read_name(s));
+    let bases = operations + 4 * usize::from(n_cigar_op(s));
     let count = l_seq(s) as usize;
     let qualities = bases + (count + 1) / 2;
     Layout {

@@ -1,8 +1,8 @@
--- `fields::u16_at` meets its contract: two bytes hold the first, and 256 times the second. Assumes nothing.
+-- `fields::u16_at` meets its contract: the library's number is that of the bytes. Assumes nothing.
+use mathlib.Core.Path.{◌∙◌}
 use native.Mathlib.Omega.{arith}
-use Rattle.fields.specs.Number.{unsigned}
+use Rattle.fields.proofs.ByteLaws.{number_of_part}
 use Rattle.fields.proofs.u16_at.Goals as goal
 
 pub returns : goal.returns
-unfolding unsigned
-returns c = omega arith
+returns c = (rw c.bytes_at.ensures at c.from_le_bytes.ensures) ∙ number_of_part 2 1 c.args.s.now c.args.at (omega arith)

@@ -1,0 +1,6 @@
+-- `fields::put_u64` meets its contract: the library's bytes are those of the number. Assumes nothing.
+use Rattle.fields.proofs.ByteLaws.{put_part}
+use Rattle.fields.proofs.put_u64.Goals as goal
+
+pub returns : goal.returns
+returns c = rw (c.copy_from_slice.ensures.after, c.to_le_bytes.ensures) (put_part 8 c.args.d.now c.args.at c.args.v c.requires)
