@@ -17,6 +17,7 @@ ghost use Rattle.filed_writing.specs.Turn.{AllPassed, Turned, Rooms, Stands, fra
 ghost use Rattle.filed_writing.specs.Written.{Treats, Copied, applied, WrittenTo};
 
 use group_applying::Applied;
+use group_frames::Frames;
 use stats::CorrectionStats;
 use strategy::Strategies;
 
@@ -151,8 +152,13 @@ fn treat_pair(
     requires { FrameTable s.now begins.now n × (i < n) × (j < n) × Rooms begins.now n left.old right.old × Cleared (record_of s.now i) (record_of s.now j) }
     ensures { Copied w (record_of s.now i) (record_of s.now j) left.new right.new result }
 {
-    let first = group_frames::record_at(s, begins, i);
-    let second = group_frames::record_at(s, begins, j);
+    let frames = Frames {
+        bytes: s,
+        begins,
+        count: n,
+    };
+    let first = frames.record(i);
+    let second = frames.record(j);
     treat_copies(first, second, w, left, right)
 }
 
@@ -271,7 +277,12 @@ fn write_record(
     let h = hold(s, begins, n, t, held, w, left, right);
     let k = t.index;
     if t.first == 0 {
-        put_frame(s, begins, k, group_frames::record_at(s, begins, k), out);
+        let frames = Frames {
+            bytes: s,
+            begins,
+            count: n,
+        };
+        put_frame(s, begins, k, frames.record(k), out);
         return h;
     }
     if t.first == k + 1 {

@@ -4,6 +4,7 @@ use Rattle.std.specs.Prelude.{ℕ, ◌+◌, ◌≤◌, ◌<◌, ◌≡◌, List,
 use Rattle.fields.specs.Layout.{layout_of}
 use Rattle.fields.specs.Sound.{Sound}
 use Rattle.group_frames.specs.Frame.{begin_of, record_of}
+use Rattle.group_frames.specs.declared.Frames.{Frames}
 
 -- n frames lie in s, each with a sound record; the table has where each begins, and where the last ends
 pub record FrameTable (s begins : List ℕ) (n : ℕ) : Type 0 where
@@ -17,3 +18,7 @@ pub record FrameTable (s begins : List ℕ) (n : ℕ) : Type 0 where
 abbrev pub Filled : List ℕ → List ℕ → Result ℕ Refusal → Type 0
 Filled s begins (Ok n) = FrameTable s begins n
 Filled s begins (Err r) = Unit {0}
+
+-- the bytes and the table that travel together: the frames of these bytes are so many, and in the table
+abbrev pub Tabled : Frames → Type 0
+Tabled f = FrameTable f.bytes.now f.begins.now f.count

@@ -1,16 +1,16 @@
 // The frames of a group: where each record lies. A frame is a u32 size and then that many bytes.
 #![tactic(auto)]
 
-ghost use Rattle.std.specs.Prelude.{◌≡◌, ℕ, ◌<◌, ◌≤◌, length};
+ghost use Rattle.std.specs.Prelude.{◌≡◌, ◌<◌, ◌≤◌, length};
 ghost use Rattle.group_frames.specs.Frame.{frame_of, frames_of, record_of};
-ghost use Rattle.group_frames.specs.Table.{FrameTable, Filled};
+ghost use Rattle.group_frames.specs.Table.{Filled, Tabled};
 
 use refusal::Refusal;
 
 // How many records a group may have.
 pub const MOST: usize = 256;
 
-// The frame of record k, which begins at a byte of the group.
+// The frame of record k, which begins at a byte of the group: where it ends.
 pub fn frame_at(s: &[u8], begin: usize, k: usize) -> Result<usize, Refusal>
     requires { (begin < length s.now) × (k < 256) }
     ensures { result ≡ frame_of s.now begin k }
@@ -26,37 +26,24 @@ pub fn frame_at(s: &[u8], begin: usize, k: usize) -> Result<usize, Refusal>
     }
     let start = begin + 4;
     let end = start + size;
-    let checked = fields::check_record(&s[start..end], place);
-    match checked {
-        Ok(_) => Ok(end),
-        Err(r) => Err(r),
-    }
+    fields::check_record(&s[start..end], place)?;
+    Ok(end)
 }
 
-// Cuts a group into its records, each checked. Afterwards `begins` holds where each frame begins,
-// and behind these where the last one ends.
+// Cuts a group into its records, each checked, and answers how many there are. Afterwards `begins` holds where
+// each frame begins, and behind these where the last one ends.
 pub fn cut(s: &[u8], begins: &mut [usize]) -> Result<usize, Refusal>
     requires { 257 ≤ length begins.old }
     ensures { (result ≡ frames_of s.now) × Filled s.now begins.new result }
 {
-    let mut k: usize = 0;
     let mut begin: usize = 0;
     begins[0] = 0;
-    while k < MOST {
+    for k in 0..MOST {
         if s.len() <= begin {
             return Ok(k);
         }
-        let f = frame_at(s, begin, k);
-        match f {
-            Err(r) => {
-                return Err(r);
-            }
-            Ok(end) => {
-                k += 1;
-                begin = end;
-                begins[k] = end;
-            }
-        }
+        begin = frame_at(s, begin, k)?;
+        begins[k + 1] = begin;
     }
     if begin < s.len() {
         return Err(Refusal::TooManyRecords);
@@ -64,12 +51,25 @@ pub fn cut(s: &[u8], begins: &mut [usize]) -> Result<usize, Refusal>
     Ok(MOST)
 }
 
-// Record k of a group by its table, as a part of the group.
-pub fn record_at<'a>(s: &'a [u8], begins: &[usize], k: usize) -> &'a [u8]
-    requires { (n : ℕ) × FrameTable s.now begins.now n × (k < n) }
-    ensures { result.now ≡ record_of s.now k }
-{
-    let start = begins[k] + 4;
-    let end = begins[k + 1];
-    &s[start..end]
+// The bytes of a group and the table of its frames: where each of so many begins, and behind these where
+// the last one ends.
+// Kept: the fact that the table is right (`Tabled`) is a clause and no ghost field, since docs/PROVED.md names
+// `group_mates::find` and the others that ask for it, and these may not take a type with an invariant instead.
+#[derive(Clone, Copy)]
+pub struct Frames<'a> {
+    pub bytes: &'a [u8],
+    pub begins: &'a [usize],
+    pub count: usize,
+}
+
+impl<'a> Frames<'a> {
+    // Record k, as a part of the group.
+    pub fn record(self, k: usize) -> &'a [u8]
+        requires { Tabled self × (k < self.count) }
+        ensures { result.now ≡ record_of self.entry.bytes.now k }
+    {
+        let start = self.begins[k] + 4;
+        let end = self.begins[k + 1];
+        &self.bytes[start..end]
+    }
 }

@@ -11,21 +11,21 @@ pub hold-h-requires : goal.hold-h-requires
 hold-h-requires c =
     (c.requires.0, c.requires.1, c.requires.2, c.requires.4)
 
-pub record_at-requires : goal.record_at-requires
-record_at-requires c =
-    (c.args.n, c.requires.0, c.requires.1.below)
+pub record-requires : goal.record-requires
+record-requires c =
+    (c.requires.0, c.requires.1.below)
 
 pub put_frame-requires : goal.put_frame-requires
 put_frame-requires c =
     let args = c.args in
     put_fits args.s.now args.begins.now args.n c.requires.0 args.t.index c.requires.1.below _ _
-    (omega (arith, ap length c.record_at.ensures, record_long args.s.now args.begins.now args.n c.requires.0 args.t.index c.requires.1.below)) c.requires.3.1
+    (omega (arith, ap length c.record.ensures, record_long args.s.now args.begins.now args.n c.requires.0 args.t.index c.requires.1.below)) c.requires.3.1
 
 pub returns-then-t-eq0 : goal.returns-then-t-eq0
 returns-then-t-eq0 c =
     let args = c.args in
     let put = c.put_frame.ensures in
-    let due = whole args.s.now args.begins.now args.n c.requires.0 args.t.index c.requires.1.below _ _ c.record_at.ensures (alone_due args.w args.s.now args.n c.requires.0.fit args.t c.requires.1 c.if-t-eq0.true) in (
+    let due = whole args.s.now args.begins.now args.n c.requires.0 args.t.index c.requires.1.below _ _ c.record.ensures (alone_due args.w args.s.now args.n c.requires.0.fit args.t c.requires.1 c.if-t-eq0.true) in (
       record {
         front = put_front args.s.now args.begins.now args.n c.requires.0 args.t.index c.requires.1.below args.w _ _ _ c.requires.3.0 c.requires.3.1 put due;
         behind = put_behind args.s.now args.begins.now args.n c.requires.0 args.t.index c.requires.1.below args.w _ _ _ c.requires.3.0 c.requires.3.1 put due;

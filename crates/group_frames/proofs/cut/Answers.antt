@@ -1,6 +1,7 @@
 use mathlib.Core.Path.{refl, ◌∙◌}
 use lib.ListN.{length-set}
 use Rattle.group_frames.proofs.FrameLaws.{going_start, said_none, said_refused, going_next, said_many, said_all}
+use Rattle.std.proofs.lemmas.Result.{err_from_is_err_and}
 use native.Mathlib.Omega.{arith}
 use Rattle.group_frames.proofs.cut.Goals as goal
 
@@ -20,17 +21,14 @@ returns-then-s-begin c =
     let loop = c.loop-k in
     (said_none args.s.now loop.begins loop.k loop.begin loop.invariant.0 c.if-s-begin.true, loop.invariant.0.placed)
 
-pub shape_of-begins-in-Err : goal.shape_of-begins-in-Err
-shape_of-begins-in-Err c =
-    let args = c.args in
-    c.loop-k.invariant.1 ∙ length-set args.begins.now 0 0
-
-pub returns-in-Err : goal.returns-in-Err
-returns-in-Err c =
-    let loop = c.loop-k in (
+pub returns-in_err-begin : goal.returns-in_err-begin
+returns-in_err-begin c =
+    let loop = c.loop-k in
+    let p = err_from_is_err_and c.from_residual.result c.from_residual.ensures.1 in
+    rw (p.1, p.2) (
       said_refused c.args.s.now loop.begins loop.k loop.begin loop.invariant.0 c.loop-k-test.true
-          (omega arith) c.frame_at-f.result _ c.frame_at-f.ensures c.in-Err.is _ refl,
-      omega arith,
+          (omega arith) c.frame_at.result _ c.frame_at.ensures c.in_err-begin.was _ refl,
+      tt,
     )
 
 pub bounds-begins-k : goal.bounds-begins-k
@@ -40,7 +38,7 @@ pub loop-k-preserved : goal.loop-k-preserved
 loop-k-preserved c =
     let loop = c.loop-k in (
       going_next c.args.s.now loop.begins loop.k loop.begin loop.invariant.0 c.loop-k-test.true (omega arith)
-          c.frame_at-f.result _ c.frame_at-f.ensures c.in-Ok.is _ refl,
+          c.frame_at.result _ c.frame_at.ensures c.in_ok-begin.was _ refl,
       length-set loop.begins _ _ ∙ loop.invariant.1,
     )
 

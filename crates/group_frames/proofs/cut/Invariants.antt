@@ -1,13 +1,9 @@
 -- `group_frames::cut` meets its contract. The loop keeps: `begin` is where frame `k` begins, `begins` has the frames up to there and keeps its
--- length, and the frames from `k` on give what all of them give. The measure is the frames that may still come. Assumes nothing.
+-- length, and the frames from `k` on give what all of them give. Assumes nothing.
 use mathlib.Core.Path.{◌≡◌}
-use Prim.Native.Nat.{◌-◌}
 use lib.ListN.{length}
 use Rattle.group_frames.proofs.FrameLaws.{Going}
 use Rattle.group_frames.proofs.cut.Given as goal
 
 abbrev pub invariant-loop-k : goal.invariant-loop-k
 invariant-loop-k l = Going l.s l.begins l.k l.begin × (length l.begins ≡ length l.initial.begins)
-
-abbrev pub decreases-loop-k : goal.decreases-loop-k
-decreases-loop-k l = 256 - l.k

@@ -1,5 +1,6 @@
 -- `group_frames::frame_at` meets its contract. Assumes nothing.
 use Rattle.group_frames.proofs.FrameLaws.{frame_short, frame_past, frame_checked}
+use Rattle.std.proofs.lemmas.Result.{err_from_is_err_and}
 use native.Mathlib.Omega.{arith}
 use Rattle.group_frames.proofs.frame_at.Goals as goal
 
@@ -14,16 +15,17 @@ returns-then-left-size c =
     frame_past args.s.now args.begin args.k (omega arith) c.if-left-lt4.false c.u32_at-size.result
     c.u32_at-size.ensures c.if-left-size.true
 
-pub returns-in-Ok : goal.returns-in-Ok
-returns-in-Ok c =
+pub returns-in_err-check_record : goal.returns-in_err-check_record
+returns-in_err-check_record c =
     let args = c.args in
-    frame_checked args.s.now args.begin args.k (omega arith) c.if-left-lt4.false c.u32_at-size.result
-    c.u32_at-size.ensures c.if-left-size.false c.check_record-checked.result _ c.check_record-checked.ensures
-    c.in-Ok.is
+    let p = err_from_is_err_and c.from_residual.result c.from_residual.ensures.1 in
+    rw (p.1, p.2) (frame_checked args.s.now args.begin args.k (omega arith) c.if-left-lt4.false c.u32_at-size.result
+    c.u32_at-size.ensures c.if-left-size.false c.check_record.result _ c.check_record.ensures
+    c.in_err-check_record.was)
 
-pub returns-in-Err : goal.returns-in-Err
-returns-in-Err c =
+pub returns : goal.returns
+returns c =
     let args = c.args in
     frame_checked args.s.now args.begin args.k (omega arith) c.if-left-lt4.false c.u32_at-size.result
-    c.u32_at-size.ensures c.if-left-size.false c.check_record-checked.result _ c.check_record-checked.ensures
-    c.in-Err.is
+    c.u32_at-size.ensures c.if-left-size.false c.check_record.result _ c.check_record.ensures
+    c.in_ok-check_record.was
