@@ -105,7 +105,7 @@ module _ (y z : Layout) (a b : List ℕ) (r : Refusal) where
       go false true (Some p) (Some q) f = spans_place p q f
 
   both_place : (j : Judged) → judged_of y z a b 1 2 ≡ j → on_both y z a b j ≡ Answers.Refused r → Either r
-  both_place (Err (Untreateds.Refused q)) e f = let h : q ≡ r = cc in judged_place (e ∙ ap Err (Untreateds.Refused h))
+  both_place (Err (Untreateds.Refused q)) e f = let h : q ≡ r = cc in judged_place (e ∙ ap (λ (x : Refusal). Err (Untreateds.Refused x)) h)
   both_place (Err (Untreateds.Apart x)) e f = let n : ◌≡◌ {A = ℕ} 0 1 = cc in absurd (omega arith)
   both_place (Ok (p , q)) e f = go (lengthless p q) (shared y z p.start q.start a b) f
     where

@@ -7,6 +7,6 @@ pub returns-in-Ok : goal.returns-in-Ok
 returns-in-Ok c =
     ap (on_merged c.args.stats) (sym c.in-Ok.is ∙ c.merge-merged.ensures)
 
-pub returns-in-Refused : goal.returns-in-Refused
-returns-in-Refused c =
-    ap (on_merged c.args.stats) (sym c.in-Refused.is ∙ c.merge-merged.ensures)
+pub returns-in-Err : goal.returns-in-Err
+returns-in-Err c =
+    ap (on_merged c.args.stats) (sym c.in-Err.is ∙ c.merge-merged.ensures)

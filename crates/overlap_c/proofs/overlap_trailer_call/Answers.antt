@@ -8,8 +8,8 @@ returns-in-Ok c =
     trailer_made args.frames.now args.agreement args.disagreement args.trailer.now _ c.file-filing.result
     c.file-filing.ensures _ c.in-Ok.is
 
-pub returns-in-Refused : goal.returns-in-Refused
-returns-in-Refused c =
+pub returns-in-Err : goal.returns-in-Err
+returns-in-Err c =
     let args = c.args in
     trailer_refused args.frames.now args.agreement args.disagreement args.trailer.now _ c.file-filing.result
-    c.file-filing.ensures _ _ c.in-Refused.is c.code.ensures
+    c.file-filing.ensures _ _ c.in-Err.is c.code.ensures

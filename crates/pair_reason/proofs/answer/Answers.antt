@@ -25,18 +25,18 @@ pub answer_on-requires : goal.answer_on-requires
 answer_on-requires c = (
   good_sound _ 1 c.in-Ok.y (sym c.check_record-checked1.ensures ∙ c.in-Ok.is),
   good_sound _ 2 c.in-Ok-checked2.z (sym c.check_record-checked2.ensures ∙ c.in-Ok-checked2.is),
-  sym c.locate-at.ensures ∙ c.in-Ok.is,
+  sym c.locate-at.ensures ∙ c.in-Ok-at.is,
 )
 
-pub returns-in-Apart : goal.returns-in-Apart
-returns-in-Apart c =
+pub returns-in-Err : goal.returns-in-Err
+returns-in-Err c =
     let args = c.args in
-    answer_apart c.in-Ok.y c.in-Ok-checked2.z args.first.now args.second.now c.locate-at.result _ c.locate-at.ensures c.in-Apart.is
+    answer_apart c.in-Ok.y c.in-Ok-checked2.z args.first.now args.second.now c.locate-at.result _ c.locate-at.ensures c.in-Err.is
     ∙ answer_both args.first.now args.second.now c.in-Ok.y (sym c.check_record-checked1.ensures ∙ c.in-Ok.is)
     c.in-Ok-checked2.z (sym c.check_record-checked2.ensures ∙ c.in-Ok-checked2.is)
 
-pub returns-in-Ok : goal.returns-in-Ok
-returns-in-Ok c =
+pub returns-in-Ok-at : goal.returns-in-Ok-at
+returns-in-Ok-at c =
     let args = c.args in
     c.answer_on.ensures ∙ answer_both args.first.now args.second.now c.in-Ok.y (sym c.check_record-checked1.ensures ∙ c.in-Ok.is)
     c.in-Ok-checked2.z (sym c.check_record-checked2.ensures ∙ c.in-Ok-checked2.is)

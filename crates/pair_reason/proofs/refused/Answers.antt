@@ -1,6 +1,6 @@
 -- `pair_reason::refused` meets its contract. Assumes nothing.
 use Rattle.pair_reason.proofs.refused.Goals as goal
 
-pub returns-in-Refused : goal.returns-in-Refused
-returns-in-Refused c =
-    rw c.in-Refused.is
+pub returns-in-Err : goal.returns-in-Err
+returns-in-Err c =
+    rw c.in-Err.is
