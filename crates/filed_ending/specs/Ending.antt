@@ -9,6 +9,10 @@ use Rattle.group_frames.specs.Frame.{begin_of, frame_of}
 abbrev pub zero_at : List ℕ → ℕ → Bool
 zero_at s p = cond (ltb (length s) (p + 4)) false (eqb (unsigned 4 s p) 0)
 
+-- whether the frames end at p, with bytes left there
+abbrev pub ends_at : List ℕ → ℕ → Result Bool Refusal
+ends_at s p = cond (ltb p (length s)) (Ok (zero_at s p)) (Err TrailerMissing)
+
 -- with bytes left for frame k: a zero size ends the frames, before all else
 abbrev pub on_left : List ℕ → ℕ → Result ℕ Refusal → Result ℕ Refusal
 on_left s k rest = cond (ltb (begin_of s k) (length s)) (cond (zero_at s (begin_of s k)) (Ok k) rest) (Err TrailerMissing)

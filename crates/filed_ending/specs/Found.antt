@@ -1,6 +1,5 @@
 -- What the table holds where the frames end.
 use Rattle.refusal.specs.declared.Refusal.{Refusal}
-use Rattle.refusal.specs.declared.Refusal.TheVariants.{TrailerMissing}
 use Rattle.std.specs.Prelude.{ℕ, ◌+◌, ◌≤◌, ◌≡◌, List, length, take, Result, Ok, Err}
 use Rattle.group_frames.specs.Frame.{begin_of, frames_of}
 use Rattle.group_frames.specs.Table.{FrameTable}
@@ -15,5 +14,4 @@ pub record FramesEnd (s begins : List ℕ) (n : ℕ) : Type 0 where
 -- frames that end fill it
 abbrev pub Found : List ℕ → List ℕ → Result ℕ Refusal → Type 0
 Found s begins (Ok n) = FramesEnd s begins n
-Found s begins (Err TrailerMissing) = Unit {0}
 Found s begins (Err r) = Unit {0}

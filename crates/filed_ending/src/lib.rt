@@ -2,22 +2,19 @@
 #![tactic(auto)]
 
 ghost use Rattle.std.specs.Prelude.{◌≡◌, ◌≤◌, length};
-ghost use Rattle.filed_ending.specs.Ending.{zero_at, ending_of};
+ghost use Rattle.filed_ending.specs.Ending.{ends_at, ending_of};
 ghost use Rattle.filed_ending.specs.Found.{Found};
 
 use refusal::Refusal;
 
-// Whether four zero bytes stand at this byte.
-fn zero_at(s: &[u8], at: usize) -> bool
-    ensures { result ≡ zero_at s.now at }
+// Whether the frames end at this byte: four zero bytes stand there. Refused where no byte is left.
+fn ends_at(s: &[u8], at: usize) -> Result<bool, Refusal>
+    ensures { result ≡ ends_at s.now at }
 {
-    if s.len() < at {
-        return false;
+    if s.len() <= at {
+        return Err(Refusal::TrailerMissing);
     }
-    if s.len() - at < 4 {
-        return false;
-    }
-    fields::u32_at(s, at) == 0
+    Ok(s[at..].starts_with(&[0; 4]))
 }
 
 // Finds where the frames end, each record checked. Where they do, `begins` holds afterwards where
@@ -26,28 +23,17 @@ pub fn cut(s: &[u8], begins: &mut [usize]) -> Result<usize, Refusal>
     requires { 257 ≤ length begins.old }
     ensures { (result ≡ ending_of s.now) × Found s.now begins.new result }
 {
-    let mut k: usize = 0;
-    let mut begin: usize = 0;
+    let mut begin = 0;
     begins[0] = 0;
-    while begin < s.len() {
-        let zero = zero_at(s, begin);
-        if zero {
+    for k in 0..group_frames::MOST {
+        if ends_at(s, begin)? {
             return Ok(k);
         }
-        if k == group_frames::MOST {
-            return Err(Refusal::TooManyRecords);
-        }
-        let f = group_frames::frame_at(s, begin, k);
-        match f {
-            Err(r) => {
-                return Err(r);
-            }
-            Ok(end) => {
-                k += 1;
-                begin = end;
-                begins[k] = end;
-            }
-        }
+        begin = group_frames::frame_at(s, begin, k)?;
+        begins[k + 1] = begin;
     }
-    Err(Refusal::TrailerMissing)
+    if ends_at(s, begin)? {
+        return Ok(group_frames::MOST);
+    }
+    Err(Refusal::TooManyRecords)
 }

@@ -1,67 +1,38 @@
-use mathlib.Core.Path.{refl, sym, ◌∙◌}
-use lib.ListN.{length-set}
+use mathlib.Core.Path.{◌≡◌}
 use native.Mathlib.Omega.{arith}
+use Rattle.std.proofs.lemmas.Result.{err_from_is_err_and}
 use Rattle.filed_ending.proofs.TurnLaws.{going_start, said_missing, said_end, said_many, said_refused, going_next}
 use Rattle.filed_ending.proofs.cut.Goals as goal
 
-pub loop-begin-init : goal.loop-begin-init
-loop-begin-init c =
-    let args = c.args in
-    (going_start args.s.now args.begins.now c.requires, refl)
+pub loop-k-init : goal.loop-k-init
+loop-k-init c = going_start c.args.s.now c.args.begins.now c.requires
 
-pub shape_of-begins-then-zero : goal.shape_of-begins-then-zero
-shape_of-begins-then-zero c =
-    c.loop-begin.invariant.1 ∙ length-set c.args.begins.now 0 0
+pub returns-in_err-ends_at : goal.returns-in_err-ends_at
+returns-in_err-ends_at c =
+    let p = err_from_is_err_and c.from_residual.result c.from_residual.ensures.1 in
+    rw (p.1, p.2) (said_missing _ _ _ _ c.loop-k.invariant _ c.ends_at.ensures _ c.in_err-ends_at.was, tt)
 
-pub returns-then-zero : goal.returns-then-zero
-returns-then-zero c =
-    let args = c.args in
-    let loop = c.loop-begin in
-    said_end args.s.now loop.begins loop.k loop.begin loop.invariant.0 (sym c.if-zero.true ∙ c.zero_at-zero.ensures)
+pub returns-then-branch : goal.returns-then-branch
+returns-then-branch c = said_end _ _ _ _ c.loop-k.invariant _ c.ends_at.ensures _ c.in_ok-ends_at.was c.if-branch.true
 
-pub shape_of-begins-then-k-eq-MOST : goal.shape_of-begins-then-k-eq-MOST
-shape_of-begins-then-k-eq-MOST c =
-    c.loop-begin.invariant.1 ∙ length-set c.args.begins.now 0 0
+pub returns-in_err-begin : goal.returns-in_err-begin
+returns-in_err-begin c =
+    let p = err_from_is_err_and c.from_residual-in_err-begin.result c.from_residual-in_err-begin.ensures.1 in
+    rw (p.1, p.2) (said_refused _ _ _ _ c.loop-k.invariant _ c.ends_at.ensures _ c.in_ok-ends_at.was c.if-branch.false c.loop-k-test.true _ c.frame_at.ensures _ c.in_err-begin.was, tt)
 
-pub returns-then-k-eq-MOST : goal.returns-then-k-eq-MOST
-returns-then-k-eq-MOST c =
-    let loop = c.loop-begin in
-    let size = sym c.if-zero.false ∙ c.zero_at-zero.ensures in (
-      said_many c.args.s.now loop.begins loop.k loop.begin loop.invariant.0 c.loop-begin-test.true size
-          (omega arith),
-      omega arith,
-    )
+pub loop-k-preserved : goal.loop-k-preserved
+loop-k-preserved c =
+    going_next _ _ _ _ c.loop-k.invariant _ c.ends_at.ensures _ c.in_ok-ends_at.was c.if-branch.false c.loop-k-test.true _ c.frame_at.ensures _ c.in_ok-begin.was
 
-pub shape_of-begins-in-Refused : goal.shape_of-begins-in-Refused
-shape_of-begins-in-Refused c =
-    c.loop-begin.invariant.1 ∙ length-set c.args.begins.now 0 0
+pub returns-in_err-ends_at-2 : goal.returns-in_err-ends_at-2
+returns-in_err-ends_at-2 c =
+    let p = err_from_is_err_and c.from_residual-in_err-ends_at-2.result c.from_residual-in_err-ends_at-2.ensures.1 in
+    rw (p.1, p.2) (said_missing _ _ _ _ c.loop-k.invariant _ c.ends_at-2.ensures _ c.in_err-ends_at-2.was, tt)
 
-pub returns-in-Refused : goal.returns-in-Refused
-returns-in-Refused c =
-    let loop = c.loop-begin in
-    let size = sym c.if-zero.false ∙ c.zero_at-zero.ensures in (
-      said_refused c.args.s.now loop.begins loop.k loop.begin loop.invariant.0 c.loop-begin-test.true size
-          (omega arith) c.frame_at-f.result _ c.frame_at-f.ensures c.in-Refused.is _ refl,
-      omega arith,
-    )
-
-pub bounds-begins-k : goal.bounds-begins-k
-bounds-begins-k c = omega (arith, c.loop-begin.invariant.0.placed.wide)
-
-pub loop-begin-preserved : goal.loop-begin-preserved
-loop-begin-preserved c =
-    let loop = c.loop-begin in
-    let size = sym c.if-zero.false ∙ c.zero_at-zero.ensures in (
-      going_next c.args.s.now loop.begins loop.k loop.begin loop.invariant.0 c.loop-begin-test.true size
-          (omega arith) c.frame_at-f.result _ c.frame_at-f.ensures c.in-Ok.is _ refl,
-      length-set loop.begins _ _ ∙ loop.invariant.1,
-    )
-
-pub shape_of-begins : goal.shape_of-begins
-shape_of-begins c = c.loop-begin.invariant.1 ∙ length-set c.args.begins.now 0 0
+pub returns-then-branch-2 : goal.returns-then-branch-2
+returns-then-branch-2 c =
+    let full : c.loop-k.k ≡ 256 = omega arith in
+    rw full at (said_end _ _ _ _ c.loop-k.invariant _ c.ends_at-2.ensures _ c.in_ok-ends_at-2.was c.if-branch-2.true)
 
 pub returns : goal.returns
-returns c =
-    let args = c.args in
-    let loop = c.loop-begin in
-    (said_missing args.s.now loop.begins loop.k loop.begin loop.invariant.0 c.loop-begin-test.false, omega arith)
+returns c = (said_many _ _ _ _ c.loop-k.invariant _ c.ends_at-2.ensures _ c.in_ok-ends_at-2.was c.if-branch-2.false (omega arith), tt)
