@@ -13,19 +13,9 @@ use Rattle.bases.specs.Written.{with_half, with_base, with_seen}
 use Rattle.fields.proofs.Arith.{eq_or_ne}
 
 -- ---- a half of a byte
-half_odd : (n b : ℕ) → (n ≡ 0 → ⊥) → half n b ≡ b % 16
-half_odd zero b h = absurd (h refl)
-half_odd (suc n) b h = refl
-
 with_odd : (n b v : ℕ) → (n ≡ 0 → ⊥) → with_half n b v ≡ b / 16 * 16 + v
 with_odd zero b v h = absurd (h refl)
 with_odd (suc n) b v h = refl
-
-pub base_even : (l : List ℕ) (y : Layout) (i : ℕ) → i % 2 ≡ 0 → base_at l y i ≡ get_or l (y.bases + i / 2) 0 / 16 % 16
-base_even l y i e = rw e
-
-pub base_odd : (l : List ℕ) (y : Layout) (i : ℕ) → (i % 2 ≡ 0 → ⊥) → base_at l y i ≡ get_or l (y.bases + i / 2) 0 % 16
-base_odd l y i e = half_odd (i % 2) _ e
 
 pub put_even : (l : List ℕ) (y : Layout) (i v : ℕ) → i % 2 ≡ 0 → set l (y.bases + i / 2) (v * 16 + get_or l (y.bases + i / 2) 0 % 16) ≡ with_base l y i v
 unfolding with_base

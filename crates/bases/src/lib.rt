@@ -22,21 +22,10 @@ pub fn get(s: &[u8], y: Layout, i: ReadOffset) -> Seen
     requires { Lies y (length s.now) × (i.0 < y.count) }
     ensures { SeenAt s.now y i.0 result }
 {
-    let bases = y.bases;
-    let qualities = y.qualities;
-    let k = i.0;
-    let pair = s[bases + k / 2];
-    let quality = s[qualities + k];
-    if k % 2 == 0 {
-        Seen {
-            base: pair / 16,
-            quality,
-        }
-    } else {
-        Seen {
-            base: pair % 16,
-            quality,
-        }
+    let pair = s[y.bases + i.0 / 2];
+    Seen {
+        base: if i.0 % 2 == 0 { pair / 16 } else { pair % 16 },
+        quality: s[y.qualities + i.0],
     }
 }
 
@@ -45,15 +34,13 @@ pub fn set_base(s: &mut [u8], y: Layout, i: ReadOffset, v: u8)
     requires { Lies y (length s.old) × (i.0 < y.count) × (v < 16) }
     ensures { s.new ≡ with_base s.old y i.0 v }
 {
-    let bases = y.bases;
-    let k = i.0;
-    let at = bases + k / 2;
+    let at = y.bases + i.0 / 2;
     let pair = s[at];
-    if k % 2 == 0 {
-        s[at] = v * 16 + pair % 16;
+    s[at] = if i.0 % 2 == 0 {
+        v * 16 + pair % 16
     } else {
-        s[at] = pair / 16 * 16 + v;
-    }
+        pair / 16 * 16 + v
+    };
 }
 
 // Base i becomes the code v with the quality q. Every other bit stays.
@@ -62,7 +49,5 @@ pub fn set(s: &mut [u8], y: Layout, i: ReadOffset, v: u8, q: u8)
     ensures { s.new ≡ with_seen s.old y i.0 v q }
 {
     set_base(s, y, i, v);
-    let qualities = y.qualities;
-    let k = i.0;
-    s[qualities + k] = q;
+    s[y.qualities + i.0] = q;
 }

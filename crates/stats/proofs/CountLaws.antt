@@ -1,10 +1,10 @@
 -- Laws of the four counts: sums, room, and what refusal 9 leaves.
-use Prim.Native.Nat.{ℕ, ◌+◌, ◌-◌, ◌*◌, ◌≤◌}
-use mathlib.Core.Path.{◌≡◌, refl, sym}
+use Prim.Native.Nat.{ℕ, ◌+◌, ◌*◌, ◌≤◌}
+use mathlib.Core.Path.{◌≡◌, refl}
 use mathlib.Core.Bool.{Bool, true, false, ◌||◌}
 use native.Mathlib.Omega.{arith}
 use lib.Dec.{ltb}
-use borrow.Author.Tests.{ltb-true, ltb-false, lt-ltb, le-ltb}
+use borrow.Author.Tests.{ltb-false}
 use Rattle.stats.specs.declared.CorrectionStats.{CorrectionStats}
 use Rattle.stats.specs.Counts.{zeroed, plus, full}
 use Rattle.stats.specs.Room.{AtMost, Room, Adds}
@@ -95,11 +95,3 @@ full_room g e =
       disagreeing = omega (arith, ltb-false n g.disagreeing q.1);
       corrected = omega (arith, ltb-false n g.corrected p.1);
     }
-
--- a sum passes the largest number exactly where the second count is above what the first leaves
-pub passes_as : (a b : ℕ) → a ≤ 18446744073709551615 → ltb (18446744073709551615 - a) b ≡ ltb 18446744073709551615 (a + b)
-passes_as a b h = go (ltb (18446744073709551615 - a) b) refl
-  where
-    go : (t : Bool) → ltb (18446744073709551615 - a) b ≡ t → t ≡ ltb 18446744073709551615 (a + b)
-    go true e = sym (lt-ltb 18446744073709551615 (a + b) (omega (arith, ltb-true (18446744073709551615 - a) b e)))
-    go false e = sym (le-ltb 18446744073709551615 (a + b) (omega (arith, ltb-false (18446744073709551615 - a) b e)))

@@ -22,6 +22,10 @@ above n g = ltb n g.overlapping || ltb n g.agreeing || ltb n g.disagreeing || lt
 abbrev pub full : CorrectionStats → Bool
 full g = above 18446744073692774399 g
 
+-- the sum of two counts: refusal 13 above 2 ^ 64 - 1
+abbrev pub sum_of : ℕ → ℕ → Result ℕ Refusal
+sum_of a b = cond (ltb 18446744073709551615 (a + b)) (Err Sum) (Ok (a + b))
+
 -- refusal 13: a sum above 2 ^ 64 - 1
 abbrev pub merged_of : CorrectionStats → CorrectionStats → Result CorrectionStats Refusal
 merged_of g h = cond (above 18446744073709551615 (plus g h)) (Err Sum) (Ok (plus g h))

@@ -2,8 +2,8 @@
 // them; and the same as 32 bytes within a slice.
 #![tactic(auto)]
 
-ghost use Rattle.std.specs.Prelude.{◌≡◌, ◌+◌, ◌≤◌, ltb, length};
-ghost use Rattle.stats.specs.Counts.{zeroed, plus, full, merged_of};
+ghost use Rattle.std.specs.Prelude.{◌≡◌, ◌+◌, ◌≤◌, length};
+ghost use Rattle.stats.specs.Counts.{zeroed, plus, full, sum_of, merged_of};
 ghost use Rattle.stats.specs.Room.{Adds};
 ghost use Rattle.stats.specs.Tally.{counts_at, with_counts};
 
@@ -22,11 +22,11 @@ pub struct CorrectionStats {
 // The largest count that a call accepts: it leaves room for what any pair or group can add.
 pub const LIMIT: u64 = 18446744073692774399;
 
-// Whether a sum passes the largest number.
-fn passes(a: u64, b: u64) -> bool
-    ensures { result ≡ ltb 18446744073709551615 (a + b) }
+// The sum of two counts, where it fits.
+fn sum(a: u64, b: u64) -> Result<u64, Refusal>
+    ensures { result ≡ sum_of a b }
 {
-    18446744073709551615 - a < b
+    a.checked_add(b).ok_or(Refusal::Sum)
 }
 
 impl CorrectionStats {
@@ -53,16 +53,10 @@ impl CorrectionStats {
     pub fn full(self) -> bool
         ensures { result ≡ full self }
     {
-        if LIMIT < self.overlapping {
-            return true;
-        }
-        if LIMIT < self.agreeing {
-            return true;
-        }
-        if LIMIT < self.disagreeing {
-            return true;
-        }
-        LIMIT < self.corrected
+        LIMIT < self.overlapping
+            || LIMIT < self.agreeing
+            || LIMIT < self.disagreeing
+            || LIMIT < self.corrected
     }
 
     // Both counts added up, where each sum fits.
@@ -82,23 +76,17 @@ impl CorrectionStats {
     pub fn merge(self, other: CorrectionStats) -> Result<CorrectionStats, Refusal>
         ensures { result ≡ merged_of self other }
     {
-        if passes(self.overlapping, other.overlapping) {
-            return Err(Refusal::Sum);
-        }
-        if passes(self.agreeing, other.agreeing) {
-            return Err(Refusal::Sum);
-        }
-        if passes(self.disagreeing, other.disagreeing) {
-            return Err(Refusal::Sum);
-        }
-        if passes(self.corrected, other.corrected) {
-            return Err(Refusal::Sum);
-        }
-        Ok(self.plus(other))
+        Ok(CorrectionStats {
+            overlapping: sum(self.overlapping, other.overlapping)?,
+            agreeing: sum(self.agreeing, other.agreeing)?,
+            disagreeing: sum(self.disagreeing, other.disagreeing)?,
+            corrected: sum(self.corrected, other.corrected)?,
+        })
     }
 }
 
 // The four counts that stand from `at` on.
+// Kept: four reads by their offsets, here and below: an array of counts gone over in step names no field, and isn't plainer.
 pub fn counts_at(s: &[u8], at: usize) -> CorrectionStats
     requires { at + 32 ≤ length s.now }
     ensures { result ≡ counts_at s.now at }
