@@ -16,7 +16,7 @@ use Rattle.fields.proofs.Arith.{lt_or_le}
 use Rattle.stats.specs.Counts.{zeroed}
 use Rattle.strategy.specs.declared.Strategies.{Strategies}
 use Rattle.strategy.specs.Number.{numbered_of}
-use Rattle.strategy.proofs.NumberLaws.{first_none, second_none, full_refused}
+use Rattle.strategy.proofs.NumberLaws.{first_none, second_none}
 use Rattle.group_frames.specs.Frame.{begin_of, frames_of}
 use Rattle.group_frames.specs.Table.{Filled}
 use Rattle.filed_ending.specs.Ending.{ending_of}
@@ -44,10 +44,9 @@ filled_few s begins f n h e = (rw e at h).few
 
 -- ---- the filing, by what the code finds
 module _ (a d : ℕ) (s out : List ℕ) (numbered : Result Strategies Refusal) (is : numbered ≡ numbered_of a d 93) where
-  pub numbers_wrong : (r : Refusal) → numbered ≡ Err r → filing (Err Strategy) out ≡ file_of a d s out
+  pub numbers_wrong : (r : Refusal) → numbered ≡ Err r → filing (Err r) out ≡ file_of a d s out
   unfolding file_of
-  numbers_wrong r e =
-      ap (λ (x : Refusal). filing (Err x) out) (sym (full_refused a d r (sym is ∙ e))) ∙ ap (on_numbered (3 * a + d) s out) (sym e ∙ is)
+  numbers_wrong r e = ap (on_numbered (3 * a + d) s out) (sym e ∙ is)
 
   module _ (w : Strategies) (are : numbered ≡ Ok w) (f : Result ℕ Refusal) (cut : f ≡ frames_of s) where
     as_framed : on_frames (3 * a + d) s out f ≡ file_of a d s out

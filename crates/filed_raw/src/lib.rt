@@ -8,24 +8,21 @@ use refusal::Refusal;
 
 // Makes the raw trailer of these frames in the first 50 bytes of `out`, for a correction by the
 // strategies of these numbers. All other bytes stay.
-pub fn file(frames: &[u8], agreement: u32, disagreement: u32, out: &mut [u8]) -> Result<usize, Refusal>
+pub fn file(
+    frames: &[u8],
+    agreement: u32,
+    disagreement: u32,
+    out: &mut [u8],
+) -> Result<usize, Refusal>
     ensures { filing result out.new ≡ file_of agreement disagreement frames.now out.old }
 {
-    let numbered = strategy::by_number(agreement, disagreement, strategy::FULL_CAP as u32);
-    let Ok(_) = numbered else {
-        return Err(Refusal::Strategy);
-    };
+    strategy::by_number(agreement, disagreement, u32::from(strategy::FULL_CAP))?;
     let mut begins = [0usize; 257];
-    let framing = group_frames::cut(frames, &mut begins);
-    match framing {
-        Err(r) => Err(r),
-        Ok(n) => {
-            if out.len() < filed_trailer::SIZE {
-                return Err(Refusal::OutputShort);
-            }
-            let strategies = (3 * agreement + disagreement) as u8;
-            filed_trailer::raw(out, strategies, n as u32, frames.len() as u64);
-            Ok(n)
-        }
+    let n = group_frames::cut(frames, &mut begins)?;
+    if out.len() < filed_trailer::SIZE {
+        return Err(Refusal::OutputShort);
     }
+    let strategies = filed_trailer::joined(agreement, disagreement);
+    filed_trailer::raw(out, strategies, n as u32, frames.len() as u64);
+    Ok(n)
 }
