@@ -1,57 +1,55 @@
 -- A number above 2 stands for no strategy, and one outside of 2 to 93 for no cap.
 use Rattle.std.specs.Prelude.{Ok, Err}
-use Prim.Native.Nat.{ℕ, ◌<◌, ◌≤◌}
+use Prim.Native.Nat.{ℕ, ◌<◌}
 use mathlib.Core.Path.{◌≡◌, refl, ap, ◌∙◌}
 use mathlib.Core.Bool.{Bool, true, false, cond}
 use mathlib.Core.Logic.{◌⊎◌, inl, inr, ⊎_elim}
-use mathlib.Core.List.{[], ◌∷◌}
 use mathlib.Core.Option.{Option, none, some}
 use native.Mathlib.Omega.{arith}
 use borrow.Author.Tests.{lt-ltb, le-ltb}
-use lib.ListN.{get_or-eq_default}
 use Rattle.refusal.specs.declared.Refusal.{Refusal}
 use Rattle.refusal.specs.declared.Refusal.TheVariants.{Strategy, Cap}
 use Rattle.strategy.specs.declared.AgreementStrategy.{AgreementStrategy}
-use Rattle.strategy.specs.declared.AgreementStrategy.TheVariants as Agree
 use Rattle.strategy.specs.declared.DisagreementStrategy.{DisagreementStrategy}
-use Rattle.strategy.specs.declared.DisagreementStrategy.TheVariants as Differ
 use Rattle.strategy.specs.declared.Strategies.{Strategies}
 use Rattle.strategy.specs.Cap.{cap_outside}
-use Rattle.strategy.specs.Number.{agreement_of, disagreement_of, both, numbered_of}
+use Rattle.strategy.specs.Number.{agreement_of, disagreement_of, named, both, numbered_of}
 
 no_second : (m : Option AgreementStrategy) (cap : ℕ) → both m none cap ≡ Err Strategy
 no_second none cap = refl
 no_second (some m) cap = refl
 
--- ---- a cap is outside exactly where a test finds it so
-pub cap_low : (cap : ℕ) → cap < 2 → cap_outside cap ≡ true
-cap_low cap h = rw (lt-ltb cap 2 h)
-
+-- a cap above the scale is outside
 pub cap_high : (cap : ℕ) → 93 < cap → cap_outside cap ≡ true
 cap_high cap h = rw (le-ltb cap 2 (omega arith), lt-ltb 93 cap h)
 
-pub cap_inside : (cap : ℕ) → 2 ≤ cap → cap ≤ 93 → cap_outside cap ≡ false
-cap_inside cap h k = rw (le-ltb cap 2 h, le-ltb 93 cap k)
-
 -- ---- the numbers, as the code asks them
+-- a number that is answered stands for what it is answered
+pub stands : {X : Type 0} (o : Option X) (x : X) → Ok x ≡ named o → some x ≡ o
+stands none x e = let z : ◌≡◌ {A = ℕ} 0 1 = cc in absurd (omega arith)
+stands (some y) x e = cc
+
+refused : {X : Type 0} (o : Option X) (r : Refusal) → Err r ≡ named o → (r ≡ Strategy) × (o ≡ none)
+refused none r e = (cc, refl)
+refused (some y) r e = let z : ◌≡◌ {A = ℕ} 0 1 = cc in absurd (omega arith)
+
 module _ (a d cap : ℕ) where
-  pub first_none : 2 < a → Err Strategy ≡ numbered_of a d cap
+  pub first_none : (r : Refusal) → Err r ≡ named (agreement_of a) → Err r ≡ numbered_of a d cap
   unfolding numbered_of
-  first_none h = rw (get_or-eq_default (some Agree.Consensus ∷ some Agree.MaxQual ∷ some Agree.PassThrough ∷ []) none h)
+  first_none r e = let h = refused (agreement_of a) r e in rw (h.0, h.1)
 
-  pub second_none : 2 < d → Err Strategy ≡ numbered_of a d cap
+  pub second_none : (r : Refusal) → Err r ≡ named (disagreement_of d) → Err r ≡ numbered_of a d cap
   unfolding numbered_of
-  second_none h =
-      rw (get_or-eq_default (some Differ.Consensus ∷ some Differ.MaskBoth ∷ some Differ.MaskLowerQual ∷ []) none h, no_second (agreement_of a) cap)
+  second_none r e = let h = refused (disagreement_of d) r e in rw (h.0, h.1, no_second (agreement_of a) cap)
 
-  module _ (m : AgreementStrategy) (k : DisagreementStrategy) (em : some m ≡ agreement_of a) (ek : some k ≡ disagreement_of d) where
+  module _ (m : AgreementStrategy) (k : DisagreementStrategy) (em : Ok m ≡ named (agreement_of a)) (ek : Ok k ≡ named (disagreement_of d)) where
     pub cap_none : cap_outside cap ≡ true → Err Cap ≡ numbered_of a d cap
     unfolding numbered_of
-    cap_none h = rw (← em, ← ek, h)
+    cap_none h = rw (← stands (agreement_of a) m em, ← stands (disagreement_of d) k ek, h)
 
     pub both_are : cap_outside cap ≡ false → Ok (record { agreement = m; disagreement = k; cap = cap }) ≡ numbered_of a d cap
     unfolding numbered_of
-    both_are h = rw (← em, ← ek, h)
+    both_are h = rw (← stands (agreement_of a) m em, ← stands (disagreement_of d) k ek, h)
 
 -- ---- what the numbers give
 module _ (cap : ℕ) (r : Refusal) (w : Strategies) where

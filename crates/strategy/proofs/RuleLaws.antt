@@ -1,10 +1,10 @@
 -- The rule's cases, as the code meets them; and what every treatment keeps.
-use Prim.Native.Nat.{ℕ, ◌+◌, ◌-◌, ◌≤◌, ◌<◌, max}
+use Prim.Native.Nat.{ℕ, ◌+◌, ◌-◌, ◌<◌, max}
 use mathlib.Core.Path.{◌≡◌, ap₂}
 use mathlib.Core.Bool.{Bool, true, false, cond, ◌&&◌, ◌||◌}
 use native.Mathlib.Omega.{arith}
 use lib.Dec.{eqb, ltb, leb}
-use borrow.Author.Tests.{lt-ltb, le-ltb, le-leb, lt-leb, eq-eqb, ne_eqb}
+use borrow.Author.Tests.{lt-ltb, le-ltb, ne_eqb}
 use Rattle.bases.specs.Code.{N}
 use Rattle.stats.specs.Room.{AtMost}
 use Rattle.strategy.specs.declared.AgreementStrategy.{AgreementStrategy}
@@ -39,26 +39,6 @@ module _ (k : DisagreementStrategy) (x a y b : ℕ) where
       let q : max (a - b) 2 ≡ max ((a - b) + (b - a)) 2 = omega arith in
       let q' : max (a - b) 2 ≡ max ((b - a) + (a - b)) 2 = omega arith in
       rw (e, n, n', l, l') (ap₂ (λ (s t : ℕ). differed_to x s x t 2) q q')
-
-  pub call_none : k ≡ Differ.Consensus → a ≤ b → b ≤ a → differed_to N 2 N 2 2 ≡ differed k x a y b
-  call_none e h h' =
-      let n : eqb a b ≡ true = eq-eqb a b (omega arith) in
-      let n' : eqb b a ≡ true = eq-eqb b a (omega arith) in
-      let q : 2 ≡ max ((a - b) + (b - a)) 2 = omega arith in
-      let q' : 2 ≡ max ((b - a) + (a - b)) 2 = omega arith in
-      rw (e, n, n') (ap₂ (λ (s t : ℕ). differed_to N s N t 2) q q')
-
-  pub mask_both : k ≡ Differ.MaskBoth → differed_to N 2 N 2 2 ≡ differed k x a y b
-  mask_both e = rw e
-
-  pub mask_first : k ≡ Differ.MaskLowerQual → a < b → differed_to N 2 y b 1 ≡ differed k x a y b
-  mask_first e h = rw (e, le-leb a b (omega arith), lt-leb b a h, ne_eqb a b (λ q. omega arith))
-
-  pub mask_second : k ≡ Differ.MaskLowerQual → b < a → differed_to x a N 2 1 ≡ differed k x a y b
-  mask_second e h = rw (e, lt-leb a b h, le-leb b a (omega arith), ne_eqb a b (λ q. omega arith))
-
-  pub mask_equal : k ≡ Differ.MaskLowerQual → a ≤ b → b ≤ a → differed_to N 2 N 2 2 ≡ differed k x a y b
-  mask_equal e h h' = rw (e, le-leb a b h, le-leb b a h', eq-eqb a b (omega arith))
 
 -- ---- what every treatment keeps: base codes stay below 16, and no count grows by more than 2
 pub record Fine (o : Treated) : Type 0 where

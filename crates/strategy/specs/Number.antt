@@ -16,6 +16,11 @@ agreement_of n = get_or (some Agree.Consensus ∷ some Agree.MaxQual ∷ some Ag
 abbrev pub disagreement_of : ℕ → Option DisagreementStrategy
 disagreement_of n = get_or (some Differ.Consensus ∷ some Differ.MaskBoth ∷ some Differ.MaskLowerQual ∷ []) n none
 
+-- what a number that stands for x is answered; refusal 10 where it stands for none
+abbrev pub named : {X : Type 0} → Option X → Result X Refusal
+named none = Err Strategy
+named (some x) = Ok x
+
 abbrev pub both : Option AgreementStrategy → Option DisagreementStrategy → ℕ → Result Strategies Refusal
 both none k cap = Err Strategy
 both (some m) none cap = Err Strategy

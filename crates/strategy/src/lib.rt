@@ -2,15 +2,15 @@
 #![tactic(auto)]
 
 ghost use Rattle.std.specs.Prelude.{◌≡◌, ◌+◌, ◌<◌, min, max};
-ghost use Rattle.std.proofs.Math.Option.{some};
 ghost use Rattle.stats.specs.Counts.{zeroed};
 ghost use Rattle.strategy.specs.Rule.{out, agreed_to, agreed, differed_to, differed, treated};
 ghost use Rattle.strategy.specs.Cap.{cap_outside, most_of};
-ghost use Rattle.strategy.specs.Number.{agreement_of, disagreement_of, numbered_of};
+ghost use Rattle.strategy.specs.Number.{named, agreement_of, disagreement_of, numbered_of};
 
 use bases::N;
 use refusal::Refusal;
 use stats::CorrectionStats;
+use std::cmp::Ordering;
 
 // What to do where both bases agree: add the qualities, take the larger, or leave both.
 #[derive(Clone, Copy)]
@@ -47,12 +47,6 @@ pub struct Treated {
     pub growth: CorrectionStats,
 }
 
-fn larger(a: u8, b: u8) -> u8
-    ensures { result ≡ max a b }
-{
-    if a < b { b } else { a }
-}
-
 // The least cap: the quality of a masked base.
 pub const LEAST_CAP: u8 = 2;
 
@@ -64,21 +58,16 @@ impl Strategies {
     pub fn cap_outside(self) -> bool
         ensures { result ≡ cap_outside self.cap }
     {
-        if self.cap < LEAST_CAP {
-            return true;
-        }
-        FULL_CAP < self.cap
+        self.cap < LEAST_CAP || FULL_CAP < self.cap
     }
 
     // The most that agreement makes of a quality: the cap under Consensus, and any under the others.
     pub fn most(self) -> u8
         ensures { result ≡ most_of self.agreement self.cap }
     {
-        let m = self.agreement;
-        match m {
+        match self.agreement {
             AgreementStrategy::Consensus => self.cap,
-            AgreementStrategy::MaxQual => 255,
-            AgreementStrategy::PassThrough => 255,
+            AgreementStrategy::MaxQual | AgreementStrategy::PassThrough => u8::MAX,
         }
     }
 
@@ -86,11 +75,7 @@ impl Strategies {
     fn capped_sum(self, a: u8, b: u8) -> u8
         ensures { result ≡ min (a + b) self.cap }
     {
-        let sum = (a as u16) + (b as u16);
-        if sum < self.cap as u16 {
-            return sum as u8;
-        }
-        self.cap
+        a.saturating_add(b).min(self.cap)
     }
 }
 
@@ -98,12 +83,7 @@ impl Strategies {
 fn requalified(x: u8, a: u8, b: u8, p: u8, q: u8) -> Treated
     ensures { result ≡ agreed_to x a b p q }
 {
-    let mut corrected = 1;
-    if a == p {
-        if b == q {
-            corrected = 0;
-        }
-    }
+    let stays = a == p && b == q;
     Treated {
         base1: x,
         qual1: p,
@@ -113,7 +93,7 @@ fn requalified(x: u8, a: u8, b: u8, p: u8, q: u8) -> Treated
             overlapping: 1,
             agreeing: 1,
             disagreeing: 0,
-            corrected,
+            corrected: u64::from(!stays),
         },
     }
 }
@@ -122,14 +102,13 @@ fn requalified(x: u8, a: u8, b: u8, p: u8, q: u8) -> Treated
 fn process_agreement(w: Strategies, x: u8, a: u8, b: u8) -> Treated
     ensures { result ≡ agreed w x a b }
 {
-    let m = w.agreement;
-    match m {
+    match w.agreement {
         AgreementStrategy::Consensus => {
             let q = w.capped_sum(a, b);
             requalified(x, a, b, q, q)
         }
         AgreementStrategy::MaxQual => {
-            let q = larger(a, b);
+            let q = a.max(b);
             requalified(x, a, b, q, q)
         }
         AgreementStrategy::PassThrough => requalified(x, a, b, a, b),
@@ -158,28 +137,18 @@ fn disagreement(x: u8, a: u8, y: u8, b: u8, corrected: u64) -> Treated
 fn process_disagreement(k: DisagreementStrategy, x: u8, a: u8, y: u8, b: u8) -> Treated
     ensures { result ≡ differed k x a y b }
 {
-    match k {
-        DisagreementStrategy::Consensus => {
-            if a < b {
-                let q = larger(b - a, 2);
-                return disagreement(y, q, y, q, 2);
-            }
-            if b < a {
-                let q = larger(a - b, 2);
-                return disagreement(x, q, x, q, 2);
-            }
-            disagreement(N, 2, N, 2, 2)
+    match (k, a.cmp(&b)) {
+        (DisagreementStrategy::MaskBoth, _) | (_, Ordering::Equal) => disagreement(N, 2, N, 2, 2),
+        (DisagreementStrategy::Consensus, Ordering::Less) => {
+            let q = (b - a).max(2);
+            disagreement(y, q, y, q, 2)
         }
-        DisagreementStrategy::MaskBoth => disagreement(N, 2, N, 2, 2),
-        DisagreementStrategy::MaskLowerQual => {
-            if a < b {
-                return disagreement(N, 2, y, b, 1);
-            }
-            if b < a {
-                return disagreement(x, a, N, 2, 1);
-            }
-            disagreement(N, 2, N, 2, 2)
+        (DisagreementStrategy::Consensus, Ordering::Greater) => {
+            let q = (a - b).max(2);
+            disagreement(x, q, x, q, 2)
         }
+        (DisagreementStrategy::MaskLowerQual, Ordering::Less) => disagreement(N, 2, y, b, 1),
+        (DisagreementStrategy::MaskLowerQual, Ordering::Greater) => disagreement(x, a, N, 2, 1),
     }
 }
 
@@ -188,17 +157,13 @@ fn process_disagreement(k: DisagreementStrategy, x: u8, a: u8, y: u8, b: u8) -> 
 pub fn treat(w: Strategies, x: u8, a: u8, y: u8, b: u8) -> Treated
     ensures { result ≡ treated w x a y b }
 {
-    if x == N {
-        return untouched(x, a, y, b);
-    }
-    if y == N {
+    if x == N || y == N {
         return untouched(x, a, y, b);
     }
     if x == y {
         return process_agreement(w, x, a, b);
     }
-    let k = w.disagreement;
-    process_disagreement(k, x, a, y, b)
+    process_disagreement(w.disagreement, x, a, y, b)
 }
 
 // A pair with an N: it stays, and nothing is counted.
@@ -214,30 +179,35 @@ fn untouched(x: u8, a: u8, y: u8, b: u8) -> Treated
     }
 }
 
-// 0 is Consensus, 1 MaxQual, 2 PassThrough. No number comes to the last arm: with an arm for each of
-// the three the compiler takes the number itself for the strategy.
-fn agreement_of(n: u32) -> AgreementStrategy
-    requires { n < 3 }
-    ensures { some result ≡ agreement_of n }
-{
-    match n {
-        0 => AgreementStrategy::Consensus,
-        1 => AgreementStrategy::MaxQual,
-        2 => AgreementStrategy::PassThrough,
-        _ => AgreementStrategy::Consensus,
+impl TryFrom<u32> for AgreementStrategy {
+    type Error = Refusal;
+
+    // What the number stands for, or refusal 10.
+    ghost try_from_gives = { λ n r. r ≡ named (agreement_of n) };
+
+    fn try_from(number: u32) -> Result<Self, Refusal> {
+        match number {
+            0 => Ok(AgreementStrategy::Consensus),
+            1 => Ok(AgreementStrategy::MaxQual),
+            2 => Ok(AgreementStrategy::PassThrough),
+            _ => Err(Refusal::Strategy),
+        }
     }
 }
 
-// 0 is Consensus, 1 MaskBoth, 2 MaskLowerQual, in arms as above.
-fn disagreement_of(n: u32) -> DisagreementStrategy
-    requires { n < 3 }
-    ensures { some result ≡ disagreement_of n }
-{
-    match n {
-        0 => DisagreementStrategy::Consensus,
-        1 => DisagreementStrategy::MaskBoth,
-        2 => DisagreementStrategy::MaskLowerQual,
-        _ => DisagreementStrategy::Consensus,
+impl TryFrom<u32> for DisagreementStrategy {
+    type Error = Refusal;
+
+    // What the number stands for, or refusal 10.
+    ghost try_from_gives = { λ n r. r ≡ named (disagreement_of n) };
+
+    fn try_from(number: u32) -> Result<Self, Refusal> {
+        match number {
+            0 => Ok(DisagreementStrategy::Consensus),
+            1 => Ok(DisagreementStrategy::MaskBoth),
+            2 => Ok(DisagreementStrategy::MaskLowerQual),
+            _ => Err(Refusal::Strategy),
+        }
     }
 }
 
@@ -246,23 +216,13 @@ fn disagreement_of(n: u32) -> DisagreementStrategy
 pub fn by_number(agreement: u32, disagreement: u32, cap: u32) -> Result<Strategies, Refusal>
     ensures { result ≡ numbered_of agreement disagreement cap }
 {
-    if 2 < agreement {
-        return Err(Refusal::Strategy);
-    }
-    if 2 < disagreement {
-        return Err(Refusal::Strategy);
-    }
-    let m = agreement_of(agreement);
-    let k = disagreement_of(disagreement);
-    if cap < LEAST_CAP as u32 {
+    let strategies = Strategies {
+        agreement: AgreementStrategy::try_from(agreement)?,
+        disagreement: DisagreementStrategy::try_from(disagreement)?,
+        cap: u8::try_from(cap).map_err(|_| Refusal::Cap)?,
+    };
+    if strategies.cap_outside() {
         return Err(Refusal::Cap);
     }
-    if (FULL_CAP as u32) < cap {
-        return Err(Refusal::Cap);
-    }
-    Ok(Strategies {
-        agreement: m,
-        disagreement: k,
-        cap: cap as u8,
-    })
+    Ok(strategies)
 }
