@@ -2,56 +2,31 @@
 // written whole, and what fails is said on standard error.
 #![tactic(auto)]
 
-ghost use Rattle.std.specs.Prelude.{◌≡◌, ◌≤◌, ◌++◌, length, OnOk};
-ghost use Rattle.std.specs.Io.KnownBytes.{Appends};
-ghost use Rattle.console.specs.Input.{moved_of, Within};
+ghost use Rattle.std.specs.Prelude.{◌≡◌, false, ◌<◌, ◌≤◌, ◌++◌, length, take, IfOk, OnOk};
+ghost use Rattle.std.specs.Io.KnownBytes.{Appends, Consumes, IsAtEnd, Keeps};
+ghost use Rattle.console.specs.Input.{Within};
 
 use std::env::{Env, FillError};
 use std::io;
 use std::io::{Cursor, Read, Write};
 
-// What became of standard input: so many bytes stand at the start of the room, up to its end or to
-// that of the input; or a read failed, and why.
-#[derive(Clone, Copy)]
-pub enum Input {
-    Whole(usize),
-    Failed(io::Error),
-}
-
-// What a read into the room answered: an error and it failed; else it moved so many bytes, none at the end.
-fn moved(got: io::Result<usize>, room: &[u8]) -> Input
-    ensures { result ≡ moved_of got (length room.now) }
+// Reads the input until it ends or the room is full, and answers how many bytes stand at the start of
+// the room. A read that fails is not the end: its error is the answer.
+pub fn read_all<R: Read>(input: &mut R, room: &mut [u8]) -> io::Result<usize>
+    ensures within { Within result (length room.old) }
+    ensures bytes { IfOk result (λ n. Consumes (R.remaining input.old) (R.remaining input.new) (take n room.new)) }
+    ensures end { IfOk result (λ n. n < length room.old → IsAtEnd (R.remaining input.new)) }
 {
-    match got {
-        Ok(n) => Input::Whole(n.min(room.len())),
-        Err(why) => Input::Failed(why),
-    }
-}
-
-// One read of the input into the room.
-fn read_some<R: Read>(input: &mut R, room: &mut [u8]) -> Input
-    ensures { Within result (length room.old) }
-{
-    let got = input.read(room);
-    moved(got, room)
-}
-
-// Reads the input until it ends or the room is full. A read that fails is not its end.
-pub fn read_all<R: Read>(input: &mut R, room: &mut [u8]) -> Input
-    ensures { Within result (length room.old) }
-{
-    let mut n: usize = 0;
+    let mut n = 0;
+    // Kept: no `for` counts here: each turn goes on by as many bytes as the read moved.
     while n < room.len() {
-        let read = read_some(input, &mut room[n..]);
-        let Input::Whole(more) = read else {
-            return read;
-        };
+        let more = input.read(&mut room[n..])?;
         if more == 0 {
-            return Input::Whole(n);
+            return Ok(n);
         }
         n += more;
     }
-    Input::Whole(n)
+    Ok(n)
 }
 
 // Writes a line and then a group, and answers whether all of it was written, or else why not.
@@ -63,8 +38,10 @@ pub fn write_both<W: Write>(output: &mut W, line: &[u8], group: &[u8]) -> io::Re
     output.write_all(group)
 }
 
-// Whether a word stands behind the program's name; then the usage is said.
-pub fn misused<E: Env, W: Write>(environment: &E, errors: &mut W, usage: &[u8]) -> bool {
+// Whether a word stands behind the program's name; then the usage is said, and else nothing.
+pub fn misused<E: Env, W: Write>(environment: &E, errors: &mut W, usage: &[u8]) -> bool
+    ensures { result ≡ false → Keeps (W.contents errors.old) (W.contents errors.new) }
+{
     let mut word = [0u8; 1];
     if let Err(FillError::NotPresent) = environment.arg(1, &mut word) {
         return false;

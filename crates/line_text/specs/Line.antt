@@ -14,6 +14,11 @@ decimal_from (suc k) n = cond (ltb n 10) (hex_digit_ascii n ∷ []) (decimal_fro
 abbrev pub spaced : ℕ → List ℕ
 spaced n = 32 ∷ decimal_from 20 n
 
+-- numbers, each behind a blank
+unfoldable pub all_spaced : List ℕ → List ℕ
+all_spaced [] = []
+all_spaced (n ∷ ns) = spaced n ++ all_spaced ns
+
 -- `ok`, records, pairs, pairs overlapping, and the growth of the four counts
 abbrev pub done_text : ℕ → ℕ → ℕ → CorrectionStats → List ℕ
 done_text records pairs overlapping g =

@@ -2,8 +2,8 @@
 // and parts of a room.
 #![tactic(auto)]
 
-ghost use Rattle.std.specs.Prelude.{◌≡◌, ◌+◌, ◌≤◌, ◌++◌, length, take, drop};
-ghost use Rattle.line_text.specs.Line.{spaced, done_text, already_text, refusal_text};
+ghost use Rattle.std.specs.Prelude.{◌≡◌, ◌+◌, ◌*◌, ◌≤◌, [], ◌∷◌, ◌++◌, length, take, drop};
+ghost use Rattle.line_text.specs.Line.{spaced, all_spaced, done_text, already_text, refusal_text};
 ghost use Rattle.line_text.specs.Put.{Put};
 
 use refusal::Refusal;
@@ -14,12 +14,9 @@ pub fn put_text(out: &mut [u8], at: usize, text: &[u8]) -> usize
     requires { at + length text.now ≤ length out.old }
     ensures { Put out.old at text.now out.new result }
 {
-    let mut i = 0;
-    while i < text.len() {
-        out[at + i] = text[i];
-        i += 1;
-    }
-    at + text.len()
+    let end = at + text.len();
+    out[at..end].copy_from_slice(text);
+    end
 }
 
 // Puts a blank and the decimal digits of a number.
@@ -33,15 +30,26 @@ pub fn put_number(out: &mut [u8], at: usize, n: u64) -> usize
     put_text(out, start, &digits[..k])
 }
 
-// Puts the four counts.
-pub fn put_counts(out: &mut [u8], at: usize, g: CorrectionStats) -> usize
-    requires { at + 84 ≤ length out.old }
-    ensures { Put out.old at (spaced g.overlapping ++ spaced g.agreeing ++ spaced g.disagreeing ++ spaced g.corrected) out.new result × (result ≤ at + 84) }
+// Puts the numbers one behind the other, each behind a blank.
+pub fn put_numbers(out: &mut [u8], at: usize, numbers: &[u64]) -> usize
+    requires { at + 21 * length numbers.now ≤ length out.old }
+    ensures { Put out.old at (all_spaced numbers.now) out.new result × (result ≤ at + 21 * length numbers.now) }
 {
-    let a = put_number(out, at, g.overlapping);
-    let b = put_number(out, a, g.agreeing);
-    let c = put_number(out, b, g.disagreeing);
-    put_number(out, c, g.corrected)
+    let mut end = at;
+    for n in numbers {
+        end = put_number(out, end, *n);
+    }
+    end
+}
+
+// A line at the start of `out`: a word, numbers behind blanks, and the line's end.
+fn put_line(out: &mut [u8], word: &[u8], numbers: &[u64]) -> usize
+    requires { length word.now + 21 * length numbers.now + 1 ≤ length out.old }
+    ensures { Put out.old 0 (word.now ++ all_spaced numbers.now ++ (10 ∷ [])) out.new result × (result ≤ length word.now + 21 * length numbers.now + 1) }
+{
+    let first = put_text(out, 0, word);
+    let last = put_numbers(out, first, numbers);
+    put_text(out, last, b"\n")
 }
 
 // The line of a group that is accepted, at the start of `out`.
@@ -55,12 +63,16 @@ pub fn put_done(
     requires { 256 ≤ length out.old }
     ensures { Put out.old 0 (done_text records pairs overlapping g) out.new result × (result ≤ 256) }
 {
-    let a = put_text(out, 0, b"ok");
-    let b = put_number(out, a, records as u64);
-    let c = put_number(out, b, pairs as u64);
-    let d = put_number(out, c, overlapping as u64);
-    let e = put_counts(out, d, g);
-    put_text(out, e, b"\n")
+    let numbers = [
+        records as u64,
+        pairs as u64,
+        overlapping as u64,
+        g.overlapping,
+        g.agreeing,
+        g.disagreeing,
+        g.corrected,
+    ];
+    put_line(out, b"ok", &numbers)
 }
 
 // The line of a group that was corrected before, at the start of `out`.
@@ -68,10 +80,14 @@ pub fn put_already(out: &mut [u8], records: usize, g: CorrectionStats) -> usize
     requires { 256 ≤ length out.old }
     ensures { Put out.old 0 (already_text records g) out.new result × (result ≤ 256) }
 {
-    let a = put_text(out, 0, b"done");
-    let b = put_number(out, a, records as u64);
-    let c = put_counts(out, b, g);
-    put_text(out, c, b"\n")
+    let numbers = [
+        records as u64,
+        g.overlapping,
+        g.agreeing,
+        g.disagreeing,
+        g.corrected,
+    ];
+    put_line(out, b"done", &numbers)
 }
 
 // The line of a refusal, at the start of `out`.
@@ -79,22 +95,14 @@ pub fn put_refusal(out: &mut [u8], r: Refusal) -> usize
     requires { 256 ≤ length out.old }
     ensures { Put out.old 0 (refusal_text r) out.new result × (result ≤ 256) }
 {
-    let a = put_text(out, 0, b"no");
-    let b = put_number(out, a, r.number() as u64);
-    let c = put_number(out, b, r.place() as u64);
-    put_text(out, c, b"\n")
+    let numbers = [u64::from(r.number()), u64::from(r.place())];
+    put_line(out, b"no", &numbers)
 }
 
 // The n bytes from `start` on, or as many of them as there are.
 pub fn part(s: &[u8], start: usize, n: usize) -> &[u8]
     ensures { result.now ≡ take n (drop start s.now) }
 {
-    let size = s.len();
-    if size <= start {
-        return &s[size..size];
-    }
-    if n <= size - start {
-        return &s[start..start + n];
-    }
-    &s[start..size]
+    let rest = &s[start.min(s.len())..];
+    &rest[..n.min(rest.len())]
 }

@@ -1,18 +1,11 @@
 -- `line_text::put_already` meets its contract. Assumes nothing.
-use Rattle.line_text.proofs.PutLaws.{put_then}
 use native.Mathlib.Omega.{arith}
+use Rattle.line_text.proofs.PutLaws.{already_line}
 use Rattle.line_text.proofs.put_already.Goals as goal
 
 pub returns : goal.returns
 returns c =
-    let two = put_then c.put_text-a.ensures c.put_number-b.ensures.0 in
-    let three = put_then two c.put_counts-c.ensures.0 in (
-      put_then three c.put_text.ensures,
-      omega (
-        arith,
-        c.put_text-a.ensures.end,
-        c.put_number-b.ensures.1,
-        c.put_counts-c.ensures.1,
-        c.put_text.ensures.end,
-      ),
+    let args = c.args in (
+      rw (already_line args.records args.g) at c.put_line.ensures.0,
+      omega (arith, c.put_line.ensures.1),
     )

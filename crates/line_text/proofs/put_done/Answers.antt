@@ -1,22 +1,11 @@
 -- `line_text::put_done` meets its contract. Assumes nothing.
-use Rattle.line_text.proofs.PutLaws.{put_then}
 use native.Mathlib.Omega.{arith}
+use Rattle.line_text.proofs.PutLaws.{done_line}
 use Rattle.line_text.proofs.put_done.Goals as goal
 
 pub returns : goal.returns
 returns c =
-    let two = put_then c.put_text-a.ensures c.put_number-b.ensures.0 in
-    let three = put_then two c.put_number-c.ensures.0 in
-    let four = put_then three c.put_number-d.ensures.0 in
-    let five = put_then four c.put_counts-e.ensures.0 in (
-      put_then five c.put_text.ensures,
-      omega (
-        arith,
-        c.put_text-a.ensures.end,
-        c.put_number-b.ensures.1,
-        c.put_number-c.ensures.1,
-        c.put_number-d.ensures.1,
-        c.put_counts-e.ensures.1,
-        c.put_text.ensures.end,
-      ),
+    let args = c.args in (
+      rw (done_line args.records args.pairs args.overlapping args.g) at c.put_line.ensures.0,
+      omega (arith, c.put_line.ensures.1),
     )
