@@ -50,6 +50,7 @@ fn read_len(op: usize) -> usize
 }
 
 // How much of the reference it uses.
+// Kept: beside `read_len`, as each name has its own theorem in the proved page; one function over the bit would stand under both.
 fn ref_len(op: usize) -> usize
     requires { op < 4294967296 }
     ensures { (result ≡ ref_len op) × (result ≤ op / 16) }
@@ -81,30 +82,20 @@ fn operation_at(s: &[u8], at: usize) -> usize
     fields::u32_at(s, at) as usize
 }
 
-// The index of the operation at a byte, from 0, where the first stands at `from`.
-fn index_at(from: usize, at: usize) -> u16
-    requires { (from ≤ at) × (at ≤ 65536) }
-    ensures { result ≡ (at - from) / 4 }
-{
-    ((at - from) / 4) as u16
-}
-
 // The operations between two bytes, front to back.
 fn walk_operations(s: &[u8], from: usize, end: usize) -> Result<Totals, u16>
     requires { (from ≤ end) × (end ≤ length s.now) × (length s.now ≤ 65536) }
     ensures { result ≡ walk_of (operations from end s.now) }
 {
-    let mut at = from;
     let mut read = 0;
     let mut reference = 0;
-    while 4 <= end - at {
-        let op = operation_at(s, at);
+    for i in 0..(end - from) / 4 {
+        let op = operation_at(s, from + 4 * i);
         if unknown(op) {
-            return Err(index_at(from, at));
+            return Err(i as u16);
         }
         read += read_len(op);
         reference += ref_len(op);
-        at += 4;
     }
     Ok(Totals { read, reference })
 }
@@ -114,37 +105,24 @@ pub fn check_operations(s: &[u8], y: Layout, place: u16) -> Result<usize, Refusa
     requires { Lies y (length s.now) × (length s.now ≤ 65536) }
     ensures { result ≡ operations_of y s.now place }
 {
-    let from = y.operations;
-    let end = y.bases;
-    let w = walk_operations(s, from, end);
-    match w {
-        Err(i) => Err(Refusal::OperationCode(place, i)),
-        Ok(totals) => {
-            let count = y.count;
-            if count == 0 {
-                return Ok(totals.reference);
-            }
-            if end - from < 4 {
-                return Ok(totals.reference);
-            }
-            let read = totals.read;
-            if read == count {
-                return Ok(totals.reference);
-            }
-            Err(Refusal::ReadTotal(place))
-        }
+    let totals = walk_operations(s, y.operations, y.bases).map_err(|i| Refusal::OperationCode(
+        place, i,
+    ))?;
+    if y.count == 0 || y.bases - y.operations < 4 || totals.read == y.count {
+        return Ok(totals.reference);
     }
+    Err(Refusal::ReadTotal(place))
 }
+
+// The last position that an alignment may cover, counted from 0.
+const LAST: usize = 2147483646;
 
 // Refusal 8 of an alignment that uses so much of the reference from `pos` on, counted from 0.
 pub fn check_span(pos: u32, uses: usize, place: u16) -> Result<Extent, Refusal>
     ensures { result ≡ span_of pos uses place }
 {
     let start = pos as usize;
-    if 2147483646 < start {
-        return Err(Refusal::ReferenceEnd(place));
-    }
-    if 2147483646 - start < uses {
+    if LAST < start || LAST - start < uses {
         return Err(Refusal::ReferenceEnd(place));
     }
     Ok(Extent {
@@ -179,6 +157,7 @@ fn skip(c: Cursor, op: usize) -> Cursor
 
 // The cursor with a base at hand, unless there is none left. Aligned operations side by side, as in
 // 3=1X1=, are one run.
+// Kept: a `while`, as the byte that it counts is a part of the cursor that is answered; a `for` would count it a second time.
 fn settle(s: &[u8], end: usize, c: Cursor) -> Cursor
     requires { (end ≤ length s.now) × Stands (take end s.now) c }
     ensures { Settled (take end s.now) c result }
@@ -206,16 +185,13 @@ pub fn begin(s: &[u8], y: Layout, start: RefPos) -> Cursor
     requires { (y.bases ≤ length s.now) × Stands (take y.bases s.now) (cursor y.operations 0 start.0 0) }
     ensures { Settled (take y.bases s.now) (cursor y.operations 0 start.0 0) result }
 {
-    let at = y.operations;
-    let end = y.bases;
-    let from = start.0;
     settle(
         s,
-        end,
+        y.bases,
         Cursor {
-            at,
+            at: y.operations,
             offset: ReadOffset(0),
-            position: RefPos(from),
+            position: start,
             left: 0,
         },
     )

@@ -4,17 +4,16 @@ use borrow.Author.Tests.{lt-ltb, le-ltb}
 use Rattle.cigar.specs.Judge.{span_of}
 use native.Mathlib.Omega.{arith}
 use Rattle.cigar.proofs.check_span.Goals as goal
+use Rattle.cigar.proofs.check_span.Goals.{then-start-gt-LAST-via-then-start-gt-LAST, then-start-gt-LAST-via-else-start-gt-LAST+then-start-uses}
 
-pub returns-then-start-gt2147483646 : goal.returns-then-start-gt2147483646
+pub returns-then-start-gt-LAST : goal.returns-then-start-gt-LAST
 unfolding span_of
-returns-then-start-gt2147483646 c = rw (lt-ltb 2147483646 (c.args.pos + c.args.uses) (omega arith))
-
-pub returns-then-start-uses : goal.returns-then-start-uses
-unfolding span_of
-returns-then-start-uses c =
-    rw (lt-ltb 2147483646 (c.args.pos + c.args.uses) (omega arith))
+returns-then-start-gt-LAST c =
+    elim c.then-start-gt-LAST.branch [
+      | then-start-gt-LAST-via-then-start-gt-LAST w ↦ rw (lt-ltb 2147483646 (c.args.pos + c.args.uses) (omega (arith, w.if-start-gt-LAST.true)))
+      | then-start-gt-LAST-via-else-start-gt-LAST+then-start-uses w ↦ rw (lt-ltb 2147483646 (c.args.pos + c.args.uses) (omega (arith, w.if-start-gt-LAST.false, w.if-start-uses.true)))
+    ]
 
 pub returns : goal.returns
 unfolding span_of
-returns c =
-    rw (le-ltb 2147483646 (c.args.pos + c.args.uses) (omega arith))
+returns c = rw (le-ltb 2147483646 (c.args.pos + c.args.uses) (omega arith))
