@@ -82,7 +82,7 @@ fn operation_at(s: &[u8], at: usize) -> usize
     fields::u32_at(s, at) as usize
 }
 
-// The operations between two bytes, front to back.
+// How much the operations between two bytes use, front to back; or the index of the first with an unknown code, from 0.
 fn walk_operations(s: &[u8], from: usize, end: usize) -> Result<Totals, u16>
     requires { (from ≤ end) × (end ≤ length s.now) × (length s.now ≤ 65536) }
     ensures { result ≡ walk_of (operations from end s.now) }
@@ -105,9 +105,8 @@ pub fn check_operations(s: &[u8], y: Layout, place: u16) -> Result<usize, Refusa
     requires { Lies y (length s.now) × (length s.now ≤ 65536) }
     ensures { result ≡ operations_of y s.now place }
 {
-    let totals = walk_operations(s, y.operations, y.bases).map_err(|i| Refusal::OperationCode(
-        place, i,
-    ))?;
+    let walked = walk_operations(s, y.operations, y.bases);
+    let totals = walked.map_err(|i| Refusal::OperationCode(place, i))?;
     if y.count == 0 || y.bases - y.operations < 4 || totals.read == y.count {
         return Ok(totals.reference);
     }

@@ -204,6 +204,7 @@ pub fn position_of(p: i32) -> Option<u32>
 }
 
 // Whether two reference ids are the same one. Two ids of -1 are.
+// Kept: public, and its clause says so of ids alone, as `equal_same_id` does; `same_reference` says it of records.
 pub fn same_id(a: i32, b: i32) -> bool
     ensures { result ≡ same_id a b }
 {

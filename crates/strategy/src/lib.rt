@@ -179,6 +179,7 @@ fn untouched(x: u8, a: u8, y: u8, b: u8) -> Treated
     }
 }
 
+// 0 is Consensus, 1 MaxQual, 2 PassThrough; no other number stands for a strategy.
 impl TryFrom<u32> for AgreementStrategy {
     type Error = Refusal;
 
@@ -195,6 +196,7 @@ impl TryFrom<u32> for AgreementStrategy {
     }
 }
 
+// 0 is Consensus, 1 MaskBoth, 2 MaskLowerQual; no other number stands for a strategy.
 impl TryFrom<u32> for DisagreementStrategy {
     type Error = Refusal;
 
