@@ -50,7 +50,8 @@ fn read_len(op: usize) -> usize
 }
 
 // How much of the reference it uses.
-// Kept: beside `read_len`, as each name has its own theorem in the proved page; one function over the bit would stand under both.
+// Kept: beside `read_len`, as docs/PROVED.md gives each its own theorem (`read_told`, `ref_told`); one function over the bit
+// would stand under both names, and isn't plainer than one line.
 fn ref_len(op: usize) -> usize
     requires { op < 4294967296 }
     ensures { (result ≡ ref_len op) × (result ≤ op / 16) }
