@@ -1,3 +1,4 @@
+pub mod RoleLaws
 pub mod KeyLaws
 pub mod ChainLaws
 pub mod OnceLaws

@@ -1,3 +1,4 @@
 pub mod Register
 pub mod Promise
 pub mod Table
+pub mod Role

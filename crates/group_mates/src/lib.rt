@@ -2,46 +2,59 @@
 // mate is found by a digest of the name.
 #![tactic(auto)]
 
-ghost use Rattle.std.specs.Prelude.{◌≡◌, ℕ, ◌+◌, ◌-◌, ◌<◌, ◌≤◌, length, get_or};
+ghost use Rattle.std.specs.Prelude.{◌≡◌, ℕ, ◌+◌, ◌<◌, ◌≤◌, length, get_or};
 ghost use Rattle.fields.specs.Layout.{layout_of, name_in};
 ghost use Rattle.fields.specs.Sound.{Sound};
-ghost use Rattle.group_frames.specs.Table.{FrameTable};
+ghost use Rattle.group_frames.specs.Table.{Tabled};
 ghost use Rattle.group_mates.specs.Register.{role_by, role_in, role_at, name_at, fits, holder, mates_of};
+ghost use Rattle.group_mates.specs.Role.{role_number, role_code, one_more};
 ghost use Rattle.group_mates.specs.Table.{key_in, Keyed, chain_of, Chained, Mated};
 ghost use Rattle.group_names.specs.Same.{same_bytes};
 
 use fields::Flags;
+use group_frames::Frames;
 
-// The roles that a record may register for; 0 is none.
-const FIRST: u64 = 1;
-
-const LAST: u64 = 2;
-
-// The role that a record with these flags registers for.
-fn role_by(f: Flags) -> u64
-    ensures { (result ≡ role_by f.0) × (result < 3) }
-{
-    if f.secondary() {
-        return 0;
-    }
-    if f.supplementary() {
-        return 0;
-    }
-    if f.first_segment() {
-        return FIRST;
-    }
-    if f.last_segment() {
-        return LAST;
-    }
-    0
+// The roles that a record may register for, as a key has them beside a digest.
+#[derive(Clone, Copy)]
+enum Role {
+    First = 1,
+    Last = 2,
 }
 
-// The role that a record registers for.
+impl Role {
+    // The number that a key has for the role; 0 there is none.
+    fn number(self) -> u64
+        ensures { result ≡ role_number self }
+    {
+        self as u64
+    }
+}
+
+// The role that a record with these flags registers for.
+fn role_by(f: Flags) -> Option<Role>
+    ensures { role_code result ≡ role_by f.0 }
+{
+    if f.secondary() || f.supplementary() {
+        return None;
+    }
+    if f.first_segment() {
+        return Some(Role::First);
+    }
+    if f.last_segment() {
+        return Some(Role::Last);
+    }
+    None
+}
+
+// The number of the role that a record registers for.
 fn role_of(r: &[u8]) -> u64
     requires { 32 ≤ length r.now }
     ensures { (result ≡ role_in r.now) × (result < 3) }
 {
-    role_by(fields::flags_of(r))
+    match role_by(fields::flags_of(r)) {
+        Some(role) => role.number(),
+        None => 0,
+    }
 }
 
 // The key of a sound record.
@@ -49,8 +62,7 @@ fn key_of(r: &[u8]) -> u64
     requires { Sound r.now (layout_of r.now) }
     ensures { result ≡ key_in r.now }
 {
-    let name = fields::name_of(r);
-    let d = group_names::digest(name);
+    let d = group_names::digest(fields::name_of(r));
     d * 4 + role_of(r)
 }
 
@@ -63,14 +75,12 @@ fn same_name(x: &[u8], y: &[u8]) -> bool
 }
 
 // Enters the key of each record.
-fn enter_keys(s: &[u8], begins: &[usize], n: usize, key: &mut [u64])
-    requires { FrameTable s.now begins.now n × (256 ≤ length key.old) }
-    ensures { Keyed s.now key.new n }
+fn enter_keys(frames: Frames, key: &mut [u64])
+    requires { Tabled frames × (256 ≤ length key.old) }
+    ensures { Keyed frames.entry.bytes.now key.new frames.entry.count }
 {
-    let mut k: usize = 0;
-    while k < n {
-        key[k] = key_of(group_frames::record_at(s, begins, k));
-        k += 1;
+    for k in 0..frames.count {
+        key[k] = key_of(frames.record(k));
     }
 }
 
@@ -86,11 +96,8 @@ fn clear(key: &[u64], n: usize, head: &mut [usize])
     requires { (n ≤ 256) × (256 ≤ length key.now) × (256 ≤ length head.old) }
     ensures { (k : ℕ) → k < n → get_or head.new (chain_of (get_or key.now k 0)) 0 ≡ 0 }
 {
-    let mut k: usize = 0;
-    while k < n {
-        let h = chain_of(key[k]);
-        head[h] = 0;
-        k += 1;
+    for k in 0..n {
+        head[chain_of(key[k])] = 0;
     }
 }
 
@@ -100,110 +107,110 @@ fn link(key: &[u64], n: usize, head: &mut [usize], next: &mut [usize])
     ensures { Chained key.now head.new next.new n }
 {
     clear(key, n, head);
-    let mut k: usize = 0;
-    while k < n {
+    for k in 0..n {
         let h = chain_of(key[k]);
         next[k] = head[h];
-        k += 1;
-        head[h] = k;
+        head[h] = k + 1;
     }
 }
 
-// Whether record j is of role q and of the name of record i. Names are compared only where the keys
-// are equal.
-fn fits_at(s: &[u8], begins: &[usize], key: &[u64], n: usize, q: u64, i: usize, j: usize) -> bool
-    requires { FrameTable s.now begins.now n × Keyed s.now key.now n × (i < n) × (j < n) × (q < 4) }
-    ensures { result ≡ fits (role_at s.now) (name_at s.now) q (name_at s.now i) j }
-{
-    if key[j] != key[i] / 4 * 4 + q {
-        return false;
-    }
-    let other = group_frames::record_at(s, begins, j);
-    same_name(other, group_frames::record_at(s, begins, i))
+// The records of a group with the tables by which mates are found: the key of each, the head of each chain, and
+// the next of each record in its chain.
+// Kept: `head` and `next` hold one more than an index, and 0 for none, as `last_in` counts them: a table of Option
+// has two words an entry, and a chain's end would be compared as a pair of them.
+#[derive(Clone, Copy)]
+struct Search<'a> {
+    frames: Frames<'a>,
+    key: &'a [u64],
+    head: &'a [usize],
+    next: &'a [usize],
+    ghost tabled: { Tabled frames },
+    ghost keyed: { Keyed frames.bytes.now key.now frames.count },
+    ghost chained: { Chained key.now head.now next.now frames.count },
 }
 
-// One more than the index of the record that has the registration of role q and the name of
-// record i, a first; 0 where none has. A first is looked for down to record i, which is one, and is
-// not compared with itself.
-fn holder_of(
-    s: &[u8],
-    begins: &[usize],
-    key: &[u64],
-    head: &[usize],
-    next: &[usize],
-    n: usize,
-    q: u64,
-    i: usize,
-) -> usize
-    requires { FrameTable s.now begins.now n × Keyed s.now key.now n × Chained key.now head.now next.now n × (i < n) × (q < 4) × (role_at s.now i ≡ 1) }
-    ensures { (result ≡ holder (role_at s.now) (name_at s.now) q (name_at s.now i) n) × (result ≤ n) }
-{
-    let h = chain_of(key[i]);
-    let end = if q == FIRST { i + 1 } else { 0 };
-    let mut c = head[h];
-    while c != end {
-        let j = c - 1;
-        if fits_at(s, begins, key, n, q, i, j) {
-            return c;
+impl<'a> Search<'a> {
+    // Whether record j is of the role and of the name of record i. Names are compared only where the keys
+    // are equal.
+    fn fits_at(&self, role: Role, i: usize, j: usize) -> bool
+        requires { (i < self.now.frames.count) × (j < self.now.frames.count) }
+        ensures { result ≡ fits (role_at self.now.frames.bytes.now) (name_at self.now.frames.bytes.now) (role_number role) (name_at self.now.frames.bytes.now i) j }
+    {
+        if self.key[j] != self.key[i] / 4 * 4 + role.number() {
+            return false;
         }
-        c = next[j];
+        let other = self.frames.record(j);
+        same_name(other, self.frames.record(i))
     }
-    c
+
+    // The record that has the registration of the role and the name of record i, a first. A first is looked
+    // for down to record i, which is one, and is not compared with itself.
+    fn holder_of(&self, role: Role, i: usize) -> Option<usize>
+        requires { (i < self.now.frames.count) × (role_at self.now.frames.bytes.now i ≡ 1) }
+        ensures { (one_more result ≡ holder (role_at self.now.frames.bytes.now) (name_at self.now.frames.bytes.now) (role_number role) (name_at self.now.frames.bytes.now i) self.now.frames.count) × (one_more result ≤ self.now.frames.count) }
+    {
+        let end = match role {
+            Role::First => i + 1,
+            Role::Last => 0,
+        };
+        let mut c = self.head[chain_of(self.key[i])];
+        while c != end {
+            let j = c - 1;
+            if self.fits_at(role, i, j) {
+                return Some(j);
+            }
+            c = self.next[j];
+        }
+        c.checked_sub(1)
+    }
+
+    // The mate of record i, where that is a registered first with a mate.
+    fn mate_of(&self, i: usize) -> Option<usize>
+        requires { i < self.now.frames.count }
+        ensures { (one_more result ≡ mates_of self.now.frames.bytes.now self.now.frames.count i) × (one_more result ≤ self.now.frames.count) }
+    {
+        if self.key[i] % 4 != Role::First.number() {
+            return None;
+        }
+        if self.holder_of(Role::First, i) != Some(i) {
+            return None;
+        }
+        self.holder_of(Role::Last, i)
+    }
+
+    // Enters the mate of each record.
+    fn enter_mates(&self, mate: &mut [usize])
+        requires { 256 ≤ length mate.old }
+        ensures { Mated self.now.frames.bytes.now mate.new self.now.frames.count }
+    {
+        for i in 0..self.frames.count {
+            mate[i] = match self.mate_of(i) {
+                Some(j) => j + 1,
+                None => 0,
+            };
+        }
+    }
 }
 
-// One more than the index of the mate of record i, where that is a registered first with a mate; else 0.
-fn mate_of(
-    s: &[u8],
-    begins: &[usize],
-    key: &[u64],
-    head: &[usize],
-    next: &[usize],
-    n: usize,
-    i: usize,
-) -> usize
-    requires { FrameTable s.now begins.now n × Keyed s.now key.now n × Chained key.now head.now next.now n × (i < n) }
-    ensures { result ≡ mates_of s.now n i }
-{
-    if key[i] % 4 != FIRST {
-        return 0;
-    }
-    if holder_of(s, begins, key, head, next, n, FIRST, i) != i + 1 {
-        return 0;
-    }
-    holder_of(s, begins, key, head, next, n, LAST, i)
-}
-
-// Enters the mate of each record.
-fn enter_mates(
-    s: &[u8],
-    begins: &[usize],
-    key: &[u64],
-    head: &[usize],
-    next: &[usize],
-    n: usize,
-    mate: &mut [usize],
-)
-    requires { FrameTable s.now begins.now n × Keyed s.now key.now n × Chained key.now head.now next.now n × (256 ≤ length mate.old) }
-    ensures { Mated s.now mate.new n }
-{
-    let mut i: usize = 0;
-    while i < n {
-        mate[i] = mate_of(s, begins, key, head, next, n, i);
-        i += 1;
-    }
-}
-
-// Finds the mates of the n records of a group. Afterwards `mate` holds one more than the index of
-// each registered first's mate, and 0 for the others of the n. (No entry of a table is read before it is
-// written; zeros would be left to memset, which takes an instruction a byte.)
-pub fn find(s: &[u8], begins: &[usize], n: usize, mate: &mut [usize])
-    requires { FrameTable s.now begins.now n × (256 ≤ length mate.old) }
-    ensures { Mated s.now mate.new n }
+// Finds the mates of the records of a group. Afterwards `mate` holds one more than the index of each registered
+// first's mate, and 0 for the others. (No entry of a table is read before it is written; zeros would be left to
+// memset, which takes an instruction a byte.)
+// Kept: `mate` is a table of numbers and none of Option, since `Mated` says so, and with it `mates_of` and
+// `pairs_of`, of which the group's theorems speak.
+pub fn find(frames: Frames, mate: &mut [usize])
+    requires { Tabled frames × (256 ≤ length mate.old) }
+    ensures { Mated frames.entry.bytes.now mate.new frames.entry.count }
 {
     let mut key = [1u64; 256];
     let mut head = [1usize; 256];
     let mut next = [1usize; 256];
-    enter_keys(s, begins, n, &mut key);
-    link(&key, n, &mut head, &mut next);
-    enter_mates(s, begins, &key, &head, &next, n, mate);
+    enter_keys(frames, &mut key);
+    link(&key, frames.count, &mut head, &mut next);
+    let search = Search {
+        frames,
+        key: &key,
+        head: &head,
+        next: &next,
+    };
+    search.enter_mates(mate);
 }

@@ -1,5 +1,4 @@
-use mathlib.Core.Path.{refl, ap, ◌∙◌}
-use lib.ListN.{length-set}
+use mathlib.Core.Path.{ap, ◌∙◌}
 use Rattle.group_mates.specs.Table.{key_in}
 use Rattle.group_mates.proofs.TableLaws.{keys_of, entered_start, entered_next, entered_keys}
 use native.Mathlib.Omega.{arith}
@@ -8,15 +7,15 @@ use Rattle.group_mates.proofs.enter_keys.Goals as goal
 pub loop-k-init : goal.loop-k-init
 loop-k-init c =
     let args = c.args in
-    (entered_start (keys_of args.s.now) args.key.now c.requires.1, refl)
+    entered_start (keys_of args.frames.bytes.now) args.key.now c.requires.1
 
-pub record_at-requires : goal.record_at-requires
-record_at-requires c =
-    (c.args.n, c.requires.0, c.loop-k-test.true)
+pub record-requires : goal.record-requires
+record-requires c =
+    (c.requires.0, c.loop-k-test.true)
 
 pub key_of-requires : goal.key_of-requires
 key_of-requires c =
-    rw c.record_at.ensures (c.requires.0.sound c.loop-k.k c.loop-k-test.true)
+    rw c.record.ensures (c.requires.0.sound c.loop-k.k c.loop-k-test.true)
 
 pub offset_bounds-key-k : goal.offset_bounds-key-k
 offset_bounds-key-k c =
@@ -24,24 +23,15 @@ offset_bounds-key-k c =
 
 pub bounds-key-k : goal.bounds-key-k
 bounds-key-k c =
-    omega (arith, c.loop-k.invariant.0.wide, c.requires.0.few)
-
-pub overflow_add-k : goal.overflow_add-k
-overflow_add-k c =
-    omega (arith, c.requires.0.few)
+    omega (arith, c.loop-k.invariant.wide, c.requires.0.few)
 
 pub loop-k-preserved : goal.loop-k-preserved
 loop-k-preserved c =
-    let loop = c.loop-k in (
-      entered_next (keys_of c.args.s.now) loop.key loop.k c.key_of.result loop.invariant.0 (omega (arith, c.requires.0.few))
-          (c.key_of.ensures ∙ ap key_in c.record_at.ensures),
-      length-set loop.key _ _ ∙ loop.invariant.1,
-    )
-
-pub shape_of-key : goal.shape_of-key
-shape_of-key c = c.loop-k.invariant.1
+    let loop = c.loop-k in
+    entered_next (keys_of c.args.frames.bytes.now) loop.key loop.k c.key_of.result loop.invariant (omega (arith, c.requires.0.few))
+    (c.key_of.ensures ∙ ap key_in c.record.ensures)
 
 pub returns : goal.returns
 returns c =
     let args = c.args in
-    entered_keys args.s.now c.loop-k.key args.n c.loop-k.k c.loop-k.invariant.0 (omega arith)
+    entered_keys args.frames.bytes.now c.loop-k.key args.frames.count c.loop-k.k c.loop-k.invariant (omega arith)

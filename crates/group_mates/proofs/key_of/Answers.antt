@@ -7,4 +7,4 @@ use Rattle.group_mates.proofs.key_of.Goals as goal
 
 pub returns : goal.returns
 unfolding key_in
-returns c = ap₂ (λ (x y : ℕ). x * 4 + y) (c.digest-d.ensures.0 ∙ ap digest_of c.name_of-name.ensures) c.role_of.ensures.0
+returns c = ap₂ (λ (x y : ℕ). x * 4 + y) (c.digest-d.ensures.0 ∙ ap digest_of c.name_of.ensures) c.role_of.ensures.0
