@@ -19,6 +19,7 @@ ghost use Rattle.filed.specs.Final.{Final, FiledTo};
 
 use filed_trailer::Trailer;
 use group_applying::Applied;
+use group_frames::Frames;
 use refusal::Refusal;
 use stats::CorrectionStats;
 use strategy::Strategies;
@@ -206,8 +207,13 @@ fn correct_raw(
         return refused(Refusal::Strategy, stats);
     };
     let mut mate = [0usize; 256];
-    group_mates::find(&filed[0..p], begins, n, &mut mate);
-    let v = group_verdicts::judge_all(&filed[0..p], begins, n, &mate);
+    let frames = Frames {
+        bytes: &filed[0..p],
+        begins,
+        count: n,
+    };
+    group_mates::find(frames, &mut mate);
+    let v = group_verdicts::judge_all(frames, &mate);
     match v {
         Err(r) => refused(r, stats),
         Ok(()) => {

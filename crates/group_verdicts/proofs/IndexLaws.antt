@@ -42,7 +42,7 @@ module _ (w : Strategies) (a b : List ℕ) (i j : ℕ) where
       third : (y z : Layout) (k : Judged) → of_judged k ≡ answered (on_judged w y z s k).answer
       third y z (Err (Untreateds.Refused r)) = refl
       third y z (Err (Untreateds.Apart r)) = refl
-      third y z (Ok (p , q)) = go (lengthless p q)
+      third y z (Ok (p, q)) = go (lengthless p q)
         where
           go : (t : Bool) → (Ok tt) ≡ answered (on_reference w y z s p.start q.start t).answer
           go true = refl

@@ -1,8 +1,9 @@
 -- A pair judged, by what the code finds; and one turn of the loop over the pairs.
-use Rattle.std.specs.Prelude.{Result, Ok, Err}
+use Rattle.std.specs.Prelude.{Result, Ok, Err, Option, None, Some}
+use Rattle.std.specs.Option.{SomeIff}
 use Rattle.pair_judgement.specs.declared.Reason.{Reason}
 use Prim.Native.Nat.{ℕ, suc, ◌+◌, ◌-◌, ◌<◌, ◌≤◌}
-use mathlib.Core.Path.{◌≡◌, refl, sym, ap, ◌∙◌}
+use mathlib.Core.Path.{◌≡◌, refl, sym, ap, ap₂, ◌∙◌}
 use mathlib.Core.List.{List, []}
 use native.Mathlib.Numerals.{add-one}
 use native.Mathlib.Omega.{arith}
@@ -18,28 +19,40 @@ use Rattle.pair_judgement.proofs.JudgeLaws.{judged_as}
 use Rattle.group_mates.specs.Register.{role_at, name_at, mates_of, mate_cons, pairs_from}
 use Rattle.group_mates.proofs.OnceLaws.{mate_below}
 use Rattle.group_verdicts.specs.Judged.{on_verdict, judge_by}
-use Rattle.group_verdicts.specs.Indexed.{of_span, of_judged, indexed_of}
+use Rattle.group_verdicts.specs.Indexed.{of_judged, indexed_of}
 
--- ---- what two records cover
-pub first_refused : (u v u' : Result Extent Refusal) (r : Refusal) → u ≡ u' → u ≡ Err r → of_span u ≡ of_judged (on_span u' (λ s. on_span v (λ t. Ok (s , t))))
-first_refused u v u' r e f = rw (f, sym e ∙ f)
+-- ---- one pair, by what the code finds
+module _ (a b : List ℕ) (i j : ℕ) (h : Sound a (layout_of a)) (l : Sound b (layout_of b)) where
+  placed : (k : Result (ℕ × ℕ) Reason) → where_of a b ≡ k
+      → of_judged (on_where k (λ p q. on_span (span_in (layout_of a) a p i) (λ s. on_span (span_in (layout_of b) b q j) (λ t. Ok (s, t))))) ≡ indexed_of a b i j
+  unfolding indexed_of
+  placed k f = ap of_judged (judged_as (layout_of a) (layout_of b) a b i j (where_of a b) refl k f) ∙ rw (sound_good a (layout_of a) h i, sound_good b (layout_of b) l j)
 
-pub second_decides : (u v u' v' : Result Extent Refusal) (s : Extent) → u ≡ u' → u ≡ Ok s → v ≡ v' → of_span v ≡ of_judged (on_span u' (λ s. on_span v' (λ t. Ok (s , t))))
-second_decides u v u' v' s e f g = rw (sym e ∙ f, sym g) (go v)
-  where
-    go : (x : Result Extent Refusal) → of_span x ≡ of_judged (on_span x (λ t. Ok (s , t)))
-    go (Ok t) = refl
-    go (Err r) = refl
+  -- on no one reference: nothing is refused
+  pub apart_passes : (r : Reason) → where_of a b ≡ Err r → Ok tt ≡ indexed_of a b i j
+  apart_passes r f = placed (Err r) f
 
--- ---- one pair
--- a sound record, by its layout as it was read
-pub read_sound : (s : List ℕ) (y : Layout) → Sound s (layout_of s) → y ≡ layout_of s → Sound s y
-read_sound s y h e = rw e h
+  module _ (p : ℕ × ℕ) (f : where_of a b ≡ Ok p) where
+    spans : (u v : Result Extent Refusal) → span_in (layout_of a) a p.0 i ≡ u → span_in (layout_of b) b p.1 j ≡ v
+        → of_judged (on_span u (λ s. on_span v (λ t. Ok (s, t)))) ≡ indexed_of a b i j
+    spans u v g k = ap₂ (λ (x y : Result Extent Refusal). of_judged (on_span x (λ s. on_span y (λ t. Ok (s, t))))) (sym g) (sym k) ∙ placed (Ok p) f
 
-pub both_placed : (a b : List ℕ) (i j : ℕ) (y z : Layout) → Sound a y → Sound b z → (k k' : Result (ℕ × ℕ) Reason) → k ≡ where_of a b → k ≡ k'
-    → of_judged (on_where k' (λ p q. on_span (span_in y a p i) (λ s. on_span (span_in z b q j) (λ t. Ok (s , t))))) ≡ indexed_of a b i j
-unfolding indexed_of
-both_placed a b i j y z h l k k' e f = ap of_judged (judged_as y z a b i j k e k' f) ∙ rw (sound_good a y h i, sound_good b z l j)
+    module _ (y : Layout) (e : y ≡ layout_of a) where
+      of_first : (u : Result Extent Refusal) → span_in y a p.0 i ≡ u → span_in (layout_of a) a p.0 i ≡ u
+      of_first u g = ap (λ (x : Layout). span_in x a p.0 i) (sym e) ∙ g
+
+      pub first_refused : (r : Refusal) → span_in y a p.0 i ≡ Err r → Err r ≡ indexed_of a b i j
+      first_refused r g = spans (Err r) _ (of_first (Err r) g) refl
+
+      module _ (s : Extent) (g : span_in y a p.0 i ≡ Ok s) (z : Layout) (d : z ≡ layout_of b) where
+        of_second : (v : Result Extent Refusal) → span_in z b p.1 j ≡ v → span_in (layout_of b) b p.1 j ≡ v
+        of_second v k = ap (λ (x : Layout). span_in x b p.1 j) (sym d) ∙ k
+
+        pub second_refused : (r : Refusal) → span_in z b p.1 j ≡ Err r → Err r ≡ indexed_of a b i j
+        second_refused r k = spans (Ok s) (Err r) (of_first (Ok s) g) (of_second (Err r) k)
+
+        pub both_pass : (t : Extent) → span_in z b p.1 j ≡ Ok t → Ok tt ≡ indexed_of a b i j
+        both_pass t k = spans (Ok s) (Ok t) (of_first (Ok s) g) (of_second (Ok t) k)
 
 -- ---- the pairs from record i on, by the mate of record i
 pub pairs_turn : (f : ℕ → ℕ) (n i m : ℕ) → i < n → m ≡ f i → pairs_from f i (n - i) ≡ mate_cons i m (pairs_from f (i + 1) (n - (i + 1)))
@@ -56,11 +69,22 @@ pairs_end f n i h = let z : n - i ≡ 0 = omega arith in ap (pairs_from f i) z
 pub pairs_start : (f : ℕ → ℕ) (n : ℕ) → pairs_from f 0 (n - 0) ≡ pairs_from f 0 n
 pairs_start f n = let z : n - 0 ≡ n = omega arith in ap (pairs_from f 0) z
 
+-- ---- what an entry of the table of mates says: no mate, or that of index j
+abbrev pub Entry : ℕ → ℕ → Type 0
+Entry m j = (1 ≤ m) × (j ≡ m - 1)
+
+pub none_of : (m : ℕ) (r : Option ℕ) → SomeIff r (1 ≤ m) (m - 1) → ((x : ℕ) → r ≡ Some x → ⊥) → m ≡ 0
+none_of m None h k = omega (arith, h)
+none_of m (Some x) h k = absurd (k x refl)
+
 -- a mate is a record of the group
+pub entry_in : (s : List ℕ) (n i m j : ℕ) → m ≡ mates_of s n i → Entry m j → j < n
+entry_in s n i m j e h =
+    let u : m ≡ suc j = omega (arith, h.0, h.1) in
+    mate_below (role_at s) (name_at s) n i j (sym e ∙ u)
+
 pub mate_in : (s : List ℕ) (n i m : ℕ) → m ≡ mates_of s n i → (m ≡ 0 → ⊥) → m - 1 < n
-mate_in s n i m e h =
-    let u : m ≡ suc (m - 1) = omega arith in
-    mate_below (role_at s) (name_at s) n i (m - 1) (sym e ∙ u)
+mate_in s n i m e h = entry_in s n i m (m - 1) e (omega arith, refl)
 
 -- ---- what is left to judge gives what all give
 abbrev pub Left : (ℕ → ℕ → Result (Unit {0}) Refusal) → (ℕ → ℕ) → ℕ → ℕ → Type 0
@@ -77,11 +101,11 @@ module _ (v : ℕ → ℕ → Result (Unit {0}) Refusal) (f : ℕ → ℕ) (n i 
   pub left_alone : m ≡ 0 → Left v f n (i + 1)
   left_alone z = sym (ap (judge_by v) (pairs_turn f n i m below e ∙ ap (λ (x : ℕ). mate_cons i x (pairs_from f (i + 1) (n - (i + 1)))) z)) ∙ l
 
-  module _ (some : m ≡ 0 → ⊥) (r r' : Result (Unit {0}) Refusal) (d : r ≡ v i (m - 1)) (d' : r ≡ r') where
+  module _ (j : ℕ) (some : Entry m j) (r r' : Result (Unit {0}) Refusal) (d : r ≡ v i j) (d' : r ≡ r') where
     turn : on_verdict r' (judge_by v (pairs_from f (i + 1) (n - (i + 1)))) ≡ judge_by v (pairs_from f 0 n)
     unfolding judge_by
     turn =
-        let u : m ≡ suc (m - 1) = omega arith in
+        let u : m ≡ suc j = omega (arith, some.0, some.1) in
         ap (λ (x : Result (Unit {0}) Refusal). on_verdict x (judge_by v (pairs_from f (i + 1) (n - (i + 1))))) (sym d' ∙ d)
         ∙ sym (ap (judge_by v) (pairs_turn f n i m below e ∙ ap (λ (x : ℕ). mate_cons i x (pairs_from f (i + 1) (n - (i + 1)))) u)) ∙ l
 

@@ -22,7 +22,7 @@ use Rattle.fields.specs.Check.{check_of}
 use Rattle.strategy.specs.declared.Strategies.{Strategies}
 use Rattle.cigar.specs.declared.Extent.{Extent}
 use Rattle.cigar.specs.Operation.{ops_in}
-use Rattle.cigar.specs.Judge.{walk_of, judged, operations_of, extent, span_of, totals}
+use Rattle.cigar.specs.Judge.{walk_of, judged, operations_of, extent, span_of}
 use Rattle.positions.specs.Step.{State}
 use Rattle.pair_merge.specs.Shared.{shared}
 use Rattle.pair_judgement.specs.declared.Reason.{Reason}
@@ -75,7 +75,7 @@ module _ (x y : ℕ) where
 
   -- 5 and 7
   judged_alike : (count n : ℕ) (k : Result Totals ℕ) → Alike Ok Err x y (judged count n x k) (judged count n y k)
-  judged_alike count n (Ok (totals read reference)) = refuses (ltb 0 count && ltb 0 n && not (eqb read count)) ReadTotal 7 (λ p. refl) (fine reference)
+  judged_alike count n (Ok t) = refuses (ltb 0 count && ltb 0 n && not (eqb t.read count)) ReadTotal 7 (λ p. refl) (fine t.reference)
   judged_alike count n (Err i) = refused (λ p. OperationCode p i) 5 i (λ p. refl)
 
   -- 8
@@ -98,13 +98,13 @@ module _ (i j : ℕ) where
   -- two judgements: the same; or both refuse the first, or both the second
   data Judges : Judged → Judged → Type 0 where
     placeless : (r : Reason) → Judges (Err (Untreateds.Apart r)) (Err (Untreateds.Apart r))
-    both : (p q : Extent) → Judges (Ok (p , q)) (Ok (p , q))
+    both : (p q : Extent) → Judges (Ok (p, q)) (Ok (p, q))
     of_first : (r q : Refusal) → Same 1 i r q → Judges (Err (Untreateds.Refused r)) (Err (Untreateds.Refused q))
     of_second : (r q : Refusal) → Same 2 j r q → Judges (Err (Untreateds.Refused r)) (Err (Untreateds.Refused q))
 
   -- step 7
   spans_judge : (u u' v v' : Result Extent Refusal) → Alike Ok Err 1 i u u' → Alike Ok Err 2 j v v'
-      → Judges (on_span u (λ s. on_span v (λ t. Ok (s , t)))) (on_span u' (λ s. on_span v' (λ t. Ok (s , t))))
+      → Judges (on_span u (λ s. on_span v (λ t. Ok (s, t)))) (on_span u' (λ s. on_span v' (λ t. Ok (s, t))))
   spans_judge u u' v v' (fine p) (fine q) = both p q
   spans_judge u u' v v' (fine p) (faulty r q h) = of_second r q h
   spans_judge u u' v v' (faulty r q h) k = of_first r q h
@@ -115,7 +115,7 @@ module _ (i j : ℕ) where
   mapped_judge y z a b = go (same_id (header a).ref_id (header b).ref_id) (position_of (header a).pos) (position_of (header b).pos)
     where
       by : Bool → Option ℕ → Option ℕ → ℕ → ℕ → Judged
-      by t u v m n = cond t (on_position u (λ p. on_position v (λ q. on_span (span_in y a p m) (λ s. on_span (span_in z b q n) (λ t. Ok (s , t)))))) (Err (Untreateds.Apart ReferencesDiffer))
+      by t u v m n = cond t (on_position u (λ p. on_position v (λ q. on_span (span_in y a p m) (λ s. on_span (span_in z b q n) (λ t. Ok (s, t)))))) (Err (Untreateds.Apart ReferencesDiffer))
 
       go : (t : Bool) (u v : Option ℕ) → Judges (by t u v 1 2) (by t u v i j)
       go true (Some p) (Some q) = spans_judge _ _ _ _ (span_alike 1 i y a p) (span_alike 2 j z b q)

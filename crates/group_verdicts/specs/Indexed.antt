@@ -19,7 +19,7 @@ of_span (Err r) = Err r
 abbrev pub of_judged : Judged → Result (Unit {0}) Refusal
 of_judged (Err (Untreateds.Refused r)) = Err r
 of_judged (Err (Untreateds.Apart r)) = Ok tt
-of_judged (Ok (p , q)) = Ok tt
+of_judged (Ok (p, q)) = Ok tt
 
 unfoldable pub indexed_of : List ℕ → List ℕ → ℕ → ℕ → Result (Unit {0}) Refusal
 indexed_of a b i j = on_sound (check_of a i) (λ y. on_sound (check_of b j) (λ z. of_judged (judged_of y z a b i j)))

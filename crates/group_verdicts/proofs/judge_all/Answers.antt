@@ -1,74 +1,49 @@
 use mathlib.Core.Path.{refl}
 use lib.ListN.{get_or}
+use Rattle.std.proofs.lemmas.Result.{err_from_is_err_and}
 use Rattle.group_mates.specs.Register.{mates_of}
 use Rattle.group_verdicts.specs.Indexed.{indexed_at}
-use Rattle.group_verdicts.proofs.JudgeLaws.{mate_in, left_start, left_alone, left_passed, left_refused, left_end}
+use Rattle.group_verdicts.proofs.JudgeLaws.{none_of, entry_in, left_start, left_alone, left_passed, left_refused, left_end}
 use native.Mathlib.Omega.{arith}
 use Rattle.group_verdicts.proofs.judge_all.Goals as goal
+use Rattle.group_verdicts.proofs.judge_all.Goals.{in-Some+in_ok-judge_at, in_default}
 
 pub loop-i-init : goal.loop-i-init
 loop-i-init c =
-    let args = c.args in
-    (omega arith, left_start (indexed_at args.s.now) (mates_of args.s.now args.n) args.n)
+    let frames = c.args.frames in
+    left_start (indexed_at frames.bytes.now) (mates_of frames.bytes.now frames.count) frames.count
 
-pub offset_bounds-mate-i : goal.offset_bounds-mate-i
-offset_bounds-mate-i c =
-    omega (arith, c.requires.0.few)
+pub judge_at-requires : goal.judge_at-requires
+judge_at-requires c =
+    let frames = c.args.frames in
+    let i = c.loop-i.i in
+    (c.requires.0, c.loop-i-test.true, entry_in frames.bytes.now frames.count i (get_or c.args.mate.now i 0) c.in-Some.j (c.requires.1.mates i c.loop-i-test.true) c.in-Some.ensures)
 
-pub bounds-mate-i : goal.bounds-mate-i
-bounds-mate-i c =
-    omega (arith, c.requires.0.few, c.requires.1.wide)
-
-pub overflow_add-i : goal.overflow_add-i
-overflow_add-i c =
-    omega (arith, c.requires.0.few)
-
-pub loop-i-preserved-then-m-eq0 : goal.loop-i-preserved-then-m-eq0
-loop-i-preserved-then-m-eq0 c =
-    let args = c.args in
-    let loop = c.loop-i in
-    let s = args.s.now in (
-      omega arith,
-      left_alone (indexed_at s) (mates_of s args.n) args.n loop.i loop.invariant.1 c.loop-i-test.true
-          (get_or args.mate.now loop.i 0) (c.requires.1.mates loop.i c.loop-i-test.true) c.if-m-eq0.true,
-    )
-
-pub judge_at-v-requires : goal.judge_at-v-requires
-judge_at-v-requires c =
-    let args = c.args in
-    let loop = c.loop-i in (
-      c.requires.0,
-      c.loop-i-test.true,
-      mate_in args.s.now args.n loop.i (get_or args.mate.now loop.i 0)
-          (c.requires.1.mates loop.i c.loop-i-test.true) c.if-m-eq0.false,
-    )
-
-pub overflow_add-i-in-Ok : goal.overflow_add-i-in-Ok
-overflow_add-i-in-Ok c =
-    omega (arith, c.requires.0.few)
+pub returns-in_err-judge_at : goal.returns-in_err-judge_at
+returns-in_err-judge_at c =
+    let frames = c.args.frames in
+    let s = frames.bytes.now in
+    let i = c.loop-i.i in
+    let p = err_from_is_err_and c.from_residual.result c.from_residual.ensures.1 in
+    rw (p.1, p.2) (left_refused (indexed_at s) (mates_of s frames.count) frames.count i c.loop-i.invariant c.loop-i-test.true
+    (get_or c.args.mate.now i 0) (c.requires.1.mates i c.loop-i-test.true) c.in-Some.j c.in-Some.ensures
+    c.judge_at.result _ c.judge_at.ensures c.in_err-judge_at.was _ refl)
 
 pub loop-i-preserved : goal.loop-i-preserved
 loop-i-preserved c =
-    let args = c.args in
-    let loop = c.loop-i in
-    let s = args.s.now in (
-      omega arith,
-      left_passed (indexed_at s) (mates_of s args.n) args.n loop.i loop.invariant.1 c.loop-i-test.true
-          (get_or args.mate.now loop.i 0) (c.requires.1.mates loop.i c.loop-i-test.true) c.if-m-eq0.false
-          c.judge_at-v.result _ c.judge_at-v.ensures c.in-Ok.is refl,
-    )
-
-pub returns-in-Refused : goal.returns-in-Refused
-returns-in-Refused c =
-    let args = c.args in
-    let loop = c.loop-i in
-    let s = args.s.now in
-    left_refused (indexed_at s) (mates_of s args.n) args.n loop.i loop.invariant.1 c.loop-i-test.true
-    (get_or args.mate.now loop.i 0) (c.requires.1.mates loop.i c.loop-i-test.true) c.if-m-eq0.false
-    c.judge_at-v.result _ c.judge_at-v.ensures c.in-Refused.is _ refl
+    let frames = c.args.frames in
+    let s = frames.bytes.now in
+    let i = c.loop-i.i in
+    let m = get_or c.args.mate.now i 0 in
+    let is = c.requires.1.mates i c.loop-i-test.true in
+    elim c.match-checked_sub.branch [
+      | in-Some+in_ok-judge_at w ↦ left_passed (indexed_at s) (mates_of s frames.count) frames.count i c.loop-i.invariant c.loop-i-test.true m is
+          w.in-Some.j w.in-Some.ensures w.judge_at.result _ w.judge_at.ensures w.in_ok-judge_at.was refl
+      | in_default w ↦ left_alone (indexed_at s) (mates_of s frames.count) frames.count i c.loop-i.invariant c.loop-i-test.true m is
+          (none_of m c.checked_sub.result c.checked_sub.ensures w.in_default.not-Some)
+    ]
 
 pub returns : goal.returns
 returns c =
-    let args = c.args in
-    let loop = c.loop-i in
-    left_end (indexed_at args.s.now) (mates_of args.s.now args.n) args.n loop.i loop.invariant.1 (omega arith)
+    let frames = c.args.frames in
+    left_end (indexed_at frames.bytes.now) (mates_of frames.bytes.now frames.count) frames.count c.loop-i.i c.loop-i.invariant (omega arith)
