@@ -65,7 +65,7 @@ starts x pos e = λ i. record { 0 = e i }
 pub record Covered (a b : List ℕ) (p q : ℕ) : Type 0 where
   pub extent₁ : Extent
   pub extent₂ : Extent
-  pub judged : (i j : ℕ) → judged_of (layout_of a) (layout_of b) a b i j ≡ Ok (extent₁ , extent₂)
+  pub judged : (i j : ℕ) → judged_of (layout_of a) (layout_of b) a b i j ≡ Ok (extent₁, extent₂)
   pub span₁ : Spanned (layout_of a) a p extent₁
   pub span₂ : Spanned (layout_of b) b q extent₂
 
@@ -79,10 +79,10 @@ module _ (a b : List ℕ) where
   pub cleared_apart : (r : Reason) → where_of a b ≡ Err r → (i j : ℕ) → judged_of (layout_of a) (layout_of b) a b i j ≡ Err (Untreateds.Apart r)
   cleared_apart r e i j = sym (rw e at (where_judged y z a b i j))
 
-  pub cleared_on : (p q : ℕ) → Cleared a b → where_of a b ≡ Ok (p , q) → Covered a b p q
+  pub cleared_on : (p q : ℕ) → Cleared a b → where_of a b ≡ Ok (p, q) → Covered a b p q
   cleared_on p q k e = first (span_in y a p k.place₁) refl
     where
-      at : (i j : ℕ) → on_span (span_in y a p i) (λ s. on_span (span_in z b q j) (λ t. Ok (s , t))) ≡ judged_of y z a b i j
+      at : (i j : ℕ) → on_span (span_in y a p i) (λ s. on_span (span_in z b q j) (λ t. Ok (s, t))) ≡ judged_of y z a b i j
       at i j = (rw e at (where_judged y z a b i j))
 
       second : (x : Extent) → span_in y a p k.place₁ ≡ Ok x → (v : Result Extent Refusal) → span_in z b q k.place₂ ≡ v → Covered a b p q
@@ -105,7 +105,7 @@ module _ (a b : List ℕ) (k : Result (ℕ × ℕ) Reason) (found : k ≡ where_
   pub apart_met : (r : Reason) → k ≡ Err r → (w : Strategies) (g h : CorrectionStats) (n : ℕ) → (n ≡ 0) × (h ≡ g) → TreatedAt (where_of a b) w (state a b g) (state a b h) n
   apart_met r e w g h n m = rw (sym found ∙ e) (ap (state a b) m.1, m.0)
 
-  module _ (p q : ℕ) (on : k ≡ Ok (p , q)) (y z : Layout) (read₁ : y ≡ layout_of a) (read₂ : z ≡ layout_of b) where
+  module _ (p q : ℕ) (on : k ≡ Ok (p, q)) (y z : Layout) (read₁ : y ≡ layout_of a) (read₂ : z ≡ layout_of b) where
     -- records on one reference
     pub on_met : (w : Strategies) (g : CorrectionStats) (u : State) (n : ℕ) → TreatedTo (job w y z) (record { 0 = p + 1 }) (record { 0 = q + 1 }) (state a b g) u n
         → TreatedAt (where_of a b) w (state a b g) u n

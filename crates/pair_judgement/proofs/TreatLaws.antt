@@ -41,19 +41,19 @@ pub on_uses_lem : (o : Result ℕ Refusal) (f : ℕ → Result Extent Refusal) (
 on_uses_lem (Ok n) f s e = (n, (refl, e))
 on_uses_lem (Err r) f s e = let z : ◌≡◌ {A = ℕ} 0 1 = cc in absurd (omega arith)
 
-on_span_lem : (x : Result Extent Refusal) (f : Extent → Judged) (p q : Extent) → on_span x f ≡ Ok (p , q) → (s : Extent) × ((x ≡ Ok s) × (f s ≡ Ok (p , q)))
+on_span_lem : (x : Result Extent Refusal) (f : Extent → Judged) (p q : Extent) → on_span x f ≡ Ok (p, q) → (s : Extent) × ((x ≡ Ok s) × (f s ≡ Ok (p, q)))
 on_span_lem (Ok s) f p q e = (s, (refl, e))
 on_span_lem (Err r) f p q e = let z : ◌≡◌ {A = ℕ} 0 1 = cc in absurd (omega arith)
 
-on_placed : (x : Optional ℕ) (f : ℕ → Judged) (p q : Extent) → on_position x f ≡ Ok (p , q) → (n : ℕ) × ((x ≡ Some n) × (f n ≡ Ok (p , q)))
+on_placed : (x : Optional ℕ) (f : ℕ → Judged) (p q : Extent) → on_position x f ≡ Ok (p, q) → (n : ℕ) × ((x ≡ Some n) × (f n ≡ Ok (p, q)))
 on_placed (Some n) f p q e = (n, (refl, e))
 on_placed None f p q e = let z : ◌≡◌ {A = ℕ} 0 1 = cc in absurd (omega arith)
 
-on_true : (t : Bool) (x : Judged) (r : Reason) (p q : Extent) → cond t x (Err (Untreateds.Apart r)) ≡ Ok (p , q) → (t ≡ true) × (x ≡ Ok (p , q))
+on_true : (t : Bool) (x : Judged) (r : Reason) (p q : Extent) → cond t x (Err (Untreateds.Apart r)) ≡ Ok (p, q) → (t ≡ true) × (x ≡ Ok (p, q))
 on_true true x r p q e = (refl, e)
 on_true false x r p q e = let z : ◌≡◌ {A = ℕ} 0 1 = cc in absurd (omega arith)
 
-on_neither : (t u : Bool) (r : Reason) (x : Judged) (p q : Extent) → cond (t || u) (Err (Untreateds.Apart r)) x ≡ Ok (p , q) → (t ≡ false) × (u ≡ false) × (x ≡ Ok (p , q))
+on_neither : (t u : Bool) (r : Reason) (x : Judged) (p q : Extent) → cond (t || u) (Err (Untreateds.Apart r)) x ≡ Ok (p, q) → (t ≡ false) × (u ≡ false) × (x ≡ Ok (p, q))
 on_neither true u r x p q e = let z : ◌≡◌ {A = ℕ} 0 1 = cc in absurd (omega arith)
 on_neither false true r x p q e = let z : ◌≡◌ {A = ℕ} 0 1 = cc in absurd (omega arith)
 on_neither false false r x p q e = (refl, refl, e)
@@ -85,8 +85,8 @@ pub some_covered : {y : Layout} {s : List ℕ} {pos : ℕ} {p : Extent} → Span
 some_covered {p = p} h e z = eqb-false p.start.0 p.end.0 e (omega (arith, h.past))
 
 -- ---- both records
-ok_both : (s t p q : Extent) → ◌≡◌ {A = Judged} (Ok (s , t)) (Ok (p , q)) → (s ≡ p) × (t ≡ q)
-ok_both s t p q e = let k : ◌≡◌ {A = Extent × Extent} (s , t) (p , q) = cc in (ap (λ (x : Extent × Extent). x.0) k, ap (λ (x : Extent × Extent). x.1) k)
+ok_both : (s t p q : Extent) → ◌≡◌ {A = Judged} (Ok (s, t)) (Ok (p, q)) → (s ≡ p) × (t ≡ q)
+ok_both s t p q e = let k : ◌≡◌ {A = Extent × Extent} (s, t) (p, q) = cc in (ap (λ (x : Extent × Extent). x.0) k, ap (λ (x : Extent × Extent). x.1) k)
 
 pub record Known (y z : Layout) (a b : List ℕ) (p q : Extent) : Type 0 where
   pub mapped₁ : has_bit (header a).flags unmapped ≡ false
@@ -99,7 +99,7 @@ pub record Known (y z : Layout) (a b : List ℕ) (p q : Extent) : Type 0 where
   pub span₁ : Spanned y a pos₁ p
   pub span₂ : Spanned z b pos₂ q
 
-pub both_known : (y z : Layout) (a b : List ℕ) (i j : ℕ) (p q : Extent) → judged_of y z a b i j ≡ Ok (p , q) → Known y z a b p q
+pub both_known : (y z : Layout) (a b : List ℕ) (i j : ℕ) (p q : Extent) → judged_of y z a b i j ≡ Ok (p, q) → Known y z a b p q
 unfolding judged_of mapped_of
 both_known y z a b i j p q e =
     let m = on_neither (has_bit (header a).flags unmapped) (has_bit (header b).flags unmapped) Unmapped _ p q e in

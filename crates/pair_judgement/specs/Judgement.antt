@@ -37,7 +37,7 @@ unfoldable pub mapped_of : Layout → Layout → List ℕ → List ℕ → ℕ �
 mapped_of y z a b i j =
     cond (same_id (header a).ref_id (header b).ref_id)
     (on_position (position_of (header a).pos) (λ p. on_position (position_of (header b).pos) (λ q.
-    on_span (span_in y a p i) (λ s. on_span (span_in z b q j) (λ t. Ok (s , t))))))
+    on_span (span_in y a p i) (λ s. on_span (span_in z b q j) (λ t. Ok (s, t))))))
     (Err (Untreateds.Apart ReferencesDiffer))
 
 -- step 4: either unmapped

@@ -20,7 +20,7 @@ pub record Ready (y z : Layout) (p q : Extent) (a b : List ℕ) : Type 0 where
   pub second : Sound b z
   pub place₁ : ℕ
   pub place₂ : ℕ
-  pub both : judged_of y z a b place₁ place₂ ≡ Ok (p , q)
+  pub both : judged_of y z a b place₁ place₂ ≡ Ok (p, q)
 
 -- what treating them gives
 pub record TreatedTo (w : Job) (p q : RefPos) (s u : State) (n : ℕ) : Type 0 where
@@ -38,4 +38,4 @@ pub record Cleared (a b : List ℕ) : Type 0 where
 -- what treating them gives, by where they lie: nothing is met of records apart
 abbrev pub TreatedAt : Result (ℕ × ℕ) Reason → Strategies → State → State → ℕ → Type 0
 TreatedAt (Err r) w s u n = (u ≡ s) × (n ≡ 0)
-TreatedAt (Ok (p , q)) w s u n = TreatedTo (job w (layout_of s.first) (layout_of s.second)) (record { 0 = p + 1 }) (record { 0 = q + 1 }) s u n
+TreatedAt (Ok (p, q)) w s u n = TreatedTo (job w (layout_of s.first) (layout_of s.second)) (record { 0 = p + 1 }) (record { 0 = q + 1 }) s u n

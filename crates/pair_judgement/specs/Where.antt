@@ -2,7 +2,7 @@
 use Rattle.pair_judgement.specs.Judgement.{Judged}
 use Rattle.pair_judgement.specs.declared.Reason.{Reason}
 use Rattle.pair_judgement.specs.declared.Untreated.TheVariants as Untreateds
-use Rattle.std.specs.Prelude.{ℕ, List, Bool, cond, ◌||◌, Option, Result, Ok, Err, Some, None}
+use Rattle.std.specs.Prelude.{ℕ, List, cond, ◌||◌, Option, Result, Ok, Err, Some, None}
 use Rattle.fields.specs.Flag.{has_bit, unmapped}
 use Rattle.fields.specs.Layout.{header}
 use Rattle.fields.specs.Position.{position_of, same_id}
@@ -10,7 +10,7 @@ use Rattle.pair_judgement.specs.declared.Reason.TheVariants.{Unmapped, Reference
 
 -- both have a position
 abbrev pub both_at : Option ℕ → Option ℕ → Result (ℕ × ℕ) Reason
-both_at (Some p) (Some q) = Ok (p , q)
+both_at (Some p) (Some q) = Ok (p, q)
 both_at (Some p) None = Err NegativePosition
 both_at None y = Err NegativePosition
 
@@ -20,11 +20,7 @@ where_of a b =
     cond (has_bit (header a).flags unmapped || has_bit (header b).flags unmapped) (Err Unmapped)
     (cond (same_id (header a).ref_id (header b).ref_id) (both_at (position_of (header a).pos) (position_of (header b).pos)) (Err ReferencesDiffer))
 
--- of mapped records one has a negative position: that is told where the ids are the same
-abbrev pub misplaced : Bool → Result (ℕ × ℕ) Reason
-misplaced same = cond same (Err NegativePosition) (Err ReferencesDiffer)
-
 -- what goes on where both lie on one reference
 abbrev pub on_where : Result (ℕ × ℕ) Reason → (ℕ → ℕ → Judged) → Judged
 on_where (Err r) rest = Err (Untreateds.Apart r)
-on_where (Ok (p , q)) rest = rest p q
+on_where (Ok (p, q)) rest = rest p q

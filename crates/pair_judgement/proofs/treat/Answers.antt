@@ -1,8 +1,10 @@
 -- `pair_judgement::treat` meets its contract. Assumes nothing.
+use mathlib.Core.Path.{refl}
 use Rattle.stats.proofs.CountLaws.{room_less}
 use Rattle.pair_judgement.proofs.TreatLaws.{empty₁, empty₂, before, behind, none_met, merge_asks, few_bases}
 use Rattle.positions.specs.Step.{job}
 use native.Mathlib.Omega.{arith}
+use Rattle.pair_judgement.proofs.treat.Goals.{then-y-eq0-via-then-y-eq0, then-y-eq0-via-else-y-eq0+then-z-eq0, then-y-eq0-via-else-y-eq0+else-z-eq0+then-p-q, then-y-eq0-via-else-y-eq0+else-z-eq0+else-p-q+then-q-p}
 use Rattle.pair_judgement.proofs.treat.Goals as goal
 
 pub returns-then-y-eq0 : goal.returns-then-y-eq0
@@ -10,36 +12,16 @@ returns-then-y-eq0 c =
     let args = c.args in
     let first = args.first.now in
     let second = args.second.now in
-    none_met (job args.w args.a.layout args.b.layout) args.a.extent.start args.b.extent.start first second args.g c.none_met.result.stats c.none_met.result.shared
-    (empty₁ args.a.layout args.b.layout args.a.extent.start args.b.extent.start first second c.if-y-eq0.true)
-    c.none_met.ensures
-
-pub returns-then-z-eq0 : goal.returns-then-z-eq0
-returns-then-z-eq0 c =
-    let args = c.args in
-    let first = args.first.now in
-    let second = args.second.now in
-    none_met (job args.w args.a.layout args.b.layout) args.a.extent.start args.b.extent.start first second args.g c.none_met-then-z-eq0.result.stats c.none_met-then-z-eq0.result.shared
-    (empty₂ args.a.layout args.b.layout args.a.extent.start args.b.extent.start first second c.if-z-eq0.true)
-    c.none_met-then-z-eq0.ensures
-
-pub returns-then-p-q : goal.returns-then-p-q
-returns-then-p-q c =
-    let args = c.args in
-    let first = args.first.now in
-    let second = args.second.now in
-    none_met (job args.w args.a.layout args.b.layout) args.a.extent.start args.b.extent.start first second args.g c.none_met-then-p-q.result.stats c.none_met-then-p-q.result.shared
-    (before args.a.layout args.b.layout args.a.extent args.b.extent first second c.requires.0 c.if-p-q.true)
-    c.none_met-then-p-q.ensures
-
-pub returns-then-q-p : goal.returns-then-q-p
-returns-then-q-p c =
-    let args = c.args in
-    let first = args.first.now in
-    let second = args.second.now in
-    none_met (job args.w args.a.layout args.b.layout) args.a.extent.start args.b.extent.start first second args.g c.none_met-then-q-p.result.stats c.none_met-then-q-p.result.shared
-    (behind args.a.layout args.b.layout args.a.extent args.b.extent first second c.requires.0 c.if-q-p.true)
-    c.none_met-then-q-p.ensures
+    let y = args.a.layout in
+    let z = args.b.layout in
+    let p = args.a.extent in
+    let q = args.b.extent in
+    none_met (job args.w y z) p.start q.start first second args.g args.g 0 (elim c.then-y-eq0.branch [
+      | then-y-eq0-via-then-y-eq0 w ↦ empty₁ y z p.start q.start first second w.if-y-eq0.true
+      | then-y-eq0-via-else-y-eq0+then-z-eq0 w ↦ empty₂ y z p.start q.start first second w.if-z-eq0.true
+      | then-y-eq0-via-else-y-eq0+else-z-eq0+then-p-q w ↦ before y z p q first second c.requires.0 w.if-p-q.true
+      | then-y-eq0-via-else-y-eq0+else-z-eq0+else-p-q+then-q-p w ↦ behind y z p q first second c.requires.0 w.if-q-p.true
+    ]) (refl, refl)
 
 pub merge-requires : goal.merge-requires
 merge-requires c =
@@ -52,7 +34,3 @@ merge-requires c =
       k.1,
       room_less args.g _ 131072 (few_bases _ args.a.layout c.requires.0.first) c.requires.1,
     )
-
-pub returns : goal.returns
-returns c =
-    record { after = c.merge.ensures.treated; counted = c.merge.ensures.counted }

@@ -1,9 +1,0 @@
--- `pair_judgement::apart` meets its contract. Assumes nothing.
-use Rattle.pair_judgement.proofs.apart.Goals as goal
-
-pub returns-in-Err : goal.returns-in-Err
-returns-in-Err c =
-    rw c.in-Err.is
-
-pub returns-in-Ok : goal.returns-in-Ok
-returns-in-Ok c = rw c.in-Ok.is

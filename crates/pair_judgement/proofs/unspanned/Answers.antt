@@ -1,8 +1,0 @@
--- `pair_judgement::unspanned` meets its contract. Assumes nothing.
-use Rattle.pair_judgement.proofs.unspanned.Goals as goal
-
-pub returns-in-Ok : goal.returns-in-Ok
-returns-in-Ok c = rw c.in-Ok.is
-
-pub returns-in-Err : goal.returns-in-Err
-returns-in-Err c = rw c.in-Err.is
