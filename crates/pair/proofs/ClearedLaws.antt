@@ -62,6 +62,6 @@ module _ (w : Strategies) (s : State) (k : Cleared s.first s.second) where
 
       go : (x : Result (ℕ × ℕ) Reason) → where_of s.first s.second ≡ x → TreatedAt x w s u n → (r : Reason) × (outcome (met_answer r n) u ≡ records_of w s 1 2)
       go (Err r) e h = (r, ap₂ (λ (m : ℕ) (v : State). outcome (met_answer r m) v) h.1 h.0 ∙ judged_as (Err (Untreateds.Apart r)) (cleared_apart _ _ r e 1 2))
-      go (Ok (p , q)) e h =
+      go (Ok (p, q)) e h =
           let c = cleared_on s.first s.second p q k e in
-          on p q c h (lengthless c.extent₁ c.extent₂) refl (judged_as (Ok (c.extent₁ , c.extent₂)) (c.judged 1 2))
+          on p q c h (lengthless c.extent₁ c.extent₂) refl (judged_as (Ok (c.extent₁, c.extent₂)) (c.judged 1 2))

@@ -56,7 +56,7 @@ quiet_judged : (w : Strategies) (y z : Layout) (s : State) (j : Judged) → Quie
 unfolding Quiet
 quiet_judged w y z s (Err (Untreateds.Refused r)) = inl refl
 quiet_judged w y z s (Err (Untreateds.Apart r)) = inl refl
-quiet_judged w y z s (Ok (p , q)) = by_length (lengthless p q)
+quiet_judged w y z s (Ok (p, q)) = by_length (lengthless p q)
   where
     go : (l : List (ℕ × ℕ)) → shared y z p.start q.start s.first s.second ≡ l → (merged (job w y z) p.start q.start s ≡ s) ⊎ (answer_of l ≡ Answers.Overlap)
     go [] e = inl (sym (nothing_shared (job w y z) p.start q.start s e))
@@ -139,7 +139,7 @@ placed_at : (z : ℤ) (n : ℕ) → z ≡ pos n → position_of z ≡ Some n
 placed_at z n e = ap position_of e
 
 aligned_judged : (y z : Layout) (a b : List ℕ) (i j : ℕ) (al : Aligned a b)
-    → on_span (span_in y a al.pos₁ i) (λ s. on_span (span_in z b al.pos₂ j) (λ t. Ok (s , t))) ≡ judged_of y z a b i j
+    → on_span (span_in y a al.pos₁ i) (λ s. on_span (span_in z b al.pos₂ j) (λ t. Ok (s, t))) ≡ judged_of y z a b i j
 unfolding judged_of mapped_of
 aligned_judged y z a b i j al =
     rw (al.mapped₁, al.mapped₂, equal_same_id (header a).ref_id (header b).ref_id al.reference, placed_at (header a).pos al.pos₁ al.placed₁, placed_at (header b).pos al.pos₂ al.placed₂)
@@ -203,7 +203,7 @@ module _ (w : Strategies) (s : State) where
       starts pos₀ x f = λ i. record { 0 = f i }
 
       second_span : (x : Extent) → Sound s.first y → Sound s.second z → span_in y s.first al.pos₁ 1 ≡ Ok x → (v : Result Extent Refusal) → span_in z s.second al.pos₂ 2 ≡ v
-          → on_judged w y z s (on_span v (λ t. Ok (x , t))) ≡ o → Kept w s o al.pos₁ al.pos₂
+          → on_judged w y z s (on_span v (λ t. Ok (x, t))) ≡ o → Kept w s o al.pos₁ al.pos₂
       second_span x g h f (Ok t) k i = by_length (lengthless x t) refl i
         where
           l : List (ℕ × ℕ)
@@ -224,7 +224,7 @@ module _ (w : Strategies) (s : State) where
       second_span x g h f (Err r) k i = absurd (n r (sym (answer_of_lem _ _ i)))
 
       first_span : Sound s.first y → Sound s.second z → (u : Result Extent Refusal) → span_in y s.first al.pos₁ 1 ≡ u
-          → on_judged w y z s (on_span u (λ t. on_span (span_in z s.second al.pos₂ 2) (λ v. Ok (t , v)))) ≡ o → Kept w s o al.pos₁ al.pos₂
+          → on_judged w y z s (on_span u (λ t. on_span (span_in z s.second al.pos₂ 2) (λ v. Ok (t, v)))) ≡ o → Kept w s o al.pos₁ al.pos₂
       first_span g h (Ok x) f i = second_span x g h f (span_in z s.second al.pos₂ 2) refl i
       first_span g h (Err r) f i = absurd (n r (sym (answer_of_lem _ _ i)))
 
@@ -241,7 +241,7 @@ module _ (w : Strategies) (s : State) where
       go : (j : Judged) → judged_of y z s.first s.second 1 2 ≡ j → on_judged w y z s j ≡ outcome Answers.Overlap u → Aligned s.first s.second
       go (Err (Untreateds.Refused r)) f h = let x : ◌≡◌ {A = ℕ} 0 1 = cc (answer_of_lem _ _ h) in absurd (omega arith)
       go (Err (Untreateds.Apart r)) f h = let x : ◌≡◌ {A = ℕ} 0 1 = cc (answer_of_lem _ _ h) in absurd (omega arith)
-      go (Ok (p , q)) f h =
+      go (Ok (p, q)) f h =
           let k = both_known y z s.first s.second 1 2 p q f in
           record {
             mapped₁ = k.mapped₁;

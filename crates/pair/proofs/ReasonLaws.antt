@@ -65,7 +65,7 @@ module _ (s : State) where
 
     -- both on one reference, and each record passed step 7
     given_reached : (al : Aligned a b) (x t : Extent) → span_in y a al.pos₁ 1 ≡ Ok x → span_in z b al.pos₂ 2 ≡ Ok t
-        → on_judged w y z s (Ok (x , t)) ≡ o → Given o.answer
+        → on_judged w y z s (Ok (x, t)) ≡ o → Given o.answer
     given_reached al x t f g e = go (covers_none x) (covers_none t) refl refl e
       where
         go : (c d : Bool) → covers_none x ≡ c → covers_none t ≡ d
@@ -77,20 +77,20 @@ module _ (s : State) where
             (given_answer al (⊎_elim (some_covered (spanned y a _ 1 x f) p) (some_covered (spanned z b _ 2 t g) q))
             (shared y z x.start t.start a b))
 
-    given_spans : (al : Aligned a b) → on_judged w y z s (on_span (span_in y a al.pos₁ 1) (λ x. on_span (span_in z b al.pos₂ 2) (λ t. Ok (x , t)))) ≡ o → Given o.answer
+    given_spans : (al : Aligned a b) → on_judged w y z s (on_span (span_in y a al.pos₁ 1) (λ x. on_span (span_in z b al.pos₂ 2) (λ t. Ok (x, t)))) ≡ o → Given o.answer
     given_spans al e = one (span_in y a al.pos₁ 1) refl e
       where
-        two : (x : Extent) → span_in y a al.pos₁ 1 ≡ Ok x → (v : Result Extent Refusal) → span_in z b al.pos₂ 2 ≡ v → on_judged w y z s (on_span v (λ t. Ok (x , t))) ≡ o → Given o.answer
+        two : (x : Extent) → span_in y a al.pos₁ 1 ≡ Ok x → (v : Result Extent Refusal) → span_in z b al.pos₂ 2 ≡ v → on_judged w y z s (on_span v (λ t. Ok (x, t))) ≡ o → Given o.answer
         two x f (Ok t) g h = given_reached al x t f g h
         two x f (Err r) g h = absurd (not_here h r refl)
 
-        one : (u : Result Extent Refusal) → span_in y a al.pos₁ 1 ≡ u → on_judged w y z s (on_span u (λ x. on_span (span_in z b al.pos₂ 2) (λ t. Ok (x , t)))) ≡ o → Given o.answer
+        one : (u : Result Extent Refusal) → span_in y a al.pos₁ 1 ≡ u → on_judged w y z s (on_span u (λ x. on_span (span_in z b al.pos₂ 2) (λ t. Ok (x, t)))) ≡ o → Given o.answer
         one (Ok x) f h = two x f (span_in z b al.pos₂ 2) refl h
         one (Err r) f h = absurd (not_here h r refl)
 
     -- positions
     given_placed : (m : Mapped a b) (same : (header a).ref_id ≡ (header b).ref_id) (u v : ℤ) → (header a).pos ≡ u → (header b).pos ≡ v
-        → on_judged w y z s (on_position (position_of u) (λ p. on_position (position_of v) (λ q. on_span (span_in y a p 1) (λ x. on_span (span_in z b q 2) (λ t. Ok (x , t)))))) ≡ o
+        → on_judged w y z s (on_position (position_of u) (λ p. on_position (position_of v) (λ q. on_span (span_in y a p 1) (λ x. on_span (span_in z b q 2) (λ t. Ok (x, t)))))) ≡ o
         → Given o.answer
     given_placed m same (pos p) (pos q) f g e =
         given_spans (record { mapped₁ = m.first; mapped₂ = m.second; reference = same; pos₁ = p; pos₂ = q; placed₁ = f; placed₂ = g }) e
@@ -103,7 +103,7 @@ module _ (s : State) where
       where
         go : (t u v : Bool) → has_bit (header a).flags unmapped ≡ t → has_bit (header b).flags unmapped ≡ u → same_id (header a).ref_id (header b).ref_id ≡ v
             → on_judged w y z s (cond (t || u) (Err (Untreateds.Apart Unmapped)) (cond v
-            (on_position (position_of (header a).pos) (λ p. on_position (position_of (header b).pos) (λ q. on_span (span_in y a p 1) (λ x. on_span (span_in z b q 2) (λ t. Ok (x , t))))))
+            (on_position (position_of (header a).pos) (λ p. on_position (position_of (header b).pos) (λ q. on_span (span_in y a p 1) (λ x. on_span (span_in z b q 2) (λ t. Ok (x, t))))))
             (Err (Untreateds.Apart ReferencesDiffer)))) ≡ o → Given o.answer
         go true u v f g h i = answer_as i (by_unmapped (inl f))
         go false true v f g h i = answer_as i (by_unmapped (inr g))

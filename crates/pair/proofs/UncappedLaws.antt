@@ -62,7 +62,7 @@ module _ (m : AgreementStrategy) (k : DisagreementStrategy) where
     judged_same : (s : State) (j : Judged) → on_judged fully y z s j ≡ Uncapped.on_judged m k y z s j
     judged_same s (Err (Untreateds.Refused r)) = refl
     judged_same s (Err (Untreateds.Apart r)) = refl
-    judged_same s (Ok (p , q)) = reference_same s p.start q.start (lengthless p q)
+    judged_same s (Ok (p, q)) = reference_same s p.start q.start (lengthless p q)
 
   good_same : (c : Result Layout Refusal) (s : State) (f g : Layout → Outcome) → ((y : Layout) → f y ≡ g y) → on_good c s f ≡ on_good c s g
   good_same (Ok y) s f g h = h y

@@ -1,6 +1,8 @@
 -- The pair call, in the document's order of judgement.
 use Rattle.refusal.specs.declared.Refusal.{Refusal}
+use Rattle.pair_judgement.specs.declared.Untreated.{Untreated}
 use Rattle.pair_judgement.specs.declared.Untreated.TheVariants as Untreateds
+use Rattle.pair_judgement.specs.declared.Placed.{Placed}
 use Rattle.std.specs.Prelude.{ℕ, List, [], ◌∷◌, Bool, cond, Result, Ok, Err}
 use Rattle.refusal.specs.declared.Refusal.TheVariants.{Count, Cap}
 use Rattle.refusal.specs.Table.{code_of}
@@ -39,11 +41,27 @@ on_reference w y z s p q none =
 abbrev pub on_judged : Strategies → Layout → Layout → State → Judged → Outcome
 on_judged w y z s (Err (Untreateds.Refused r)) = outcome (Answers.Refused r) s
 on_judged w y z s (Err (Untreateds.Apart r)) = outcome (Answers.NoOverlap r) s
-on_judged w y z s (Ok (p , q)) = on_reference w y z s p.start q.start (lengthless p q)
+on_judged w y z s (Ok (p, q)) = on_reference w y z s p.start q.start (lengthless p q)
 
-abbrev pub refused_answer : Result Layout Refusal → Answer
-refused_answer (Ok y) = Answers.Overlap
-refused_answer (Err r) = Answers.Refused r
+-- why two records are not treated, as the answer
+abbrev pub untreated_answer : Untreated → Answer
+untreated_answer (Untreateds.Refused r) = Answers.Refused r
+untreated_answer (Untreateds.Apart r) = Answers.NoOverlap r
+
+-- two records judged by steps 3 to 7: each with its layout and what it covers
+abbrev pub Both : Type 0
+Both = Result (Placed × Placed) Untreated
+
+abbrev pub placed : Layout → Layout → Judged → Both
+placed y z (Err u) = Err u
+placed y z (Ok (p, q)) = Ok (record { layout = y; extent = p }, record { layout = z; extent = q })
+
+abbrev pub on_checked : Result Layout Refusal → (Layout → Both) → Both
+on_checked (Ok y) rest = rest y
+on_checked (Err r) rest = Err (Untreateds.Refused r)
+
+unfoldable pub placed_of : List ℕ → List ℕ → Both
+placed_of a b = on_checked (check_of a 1) (λ y. on_checked (check_of b 2) (λ z. placed y z (judged_of y z a b 1 2)))
 
 abbrev pub on_good : Result Layout Refusal → State → (Layout → Outcome) → Outcome
 on_good (Ok y) s rest = rest y

@@ -52,7 +52,7 @@ on_reference m k y z s p q none =
 abbrev pub on_judged : AgreementStrategy → DisagreementStrategy → Layout → Layout → State → Judged → Outcome
 on_judged m k y z s (Err (Untreateds.Refused r)) = outcome (Answers.Refused r) s
 on_judged m k y z s (Err (Untreateds.Apart r)) = outcome (Answers.NoOverlap r) s
-on_judged m k y z s (Ok (p , q)) = on_reference m k y z s p.start q.start (lengthless p q)
+on_judged m k y z s (Ok (p, q)) = on_reference m k y z s p.start q.start (lengthless p q)
 
 abbrev pub records_of : AgreementStrategy → DisagreementStrategy → State → Outcome
 records_of m k s = on_good (check_of s.first 1) s (λ y. on_good (check_of s.second 2) s (λ z. on_judged m k y z s (judged_of y z s.first s.second 1 2)))

@@ -2,12 +2,9 @@
 #![tactic(auto)]
 
 ghost use Rattle.std.specs.Prelude.{◌≡◌};
-ghost use Rattle.stats.specs.Room.{Room};
 ghost use Rattle.positions.specs.Step.{state};
-ghost use Rattle.pair_judgement.specs.Ready.{Ready};
-ghost use Rattle.pair.specs.Pair.{on_judged, refused_answer, outcome, capped_of, pair_of, answer_code};
+ghost use Rattle.pair.specs.Pair.{outcome, untreated_answer, placed_of, capped_of, pair_of, answer_code};
 
-use fields::Layout;
 use pair_judgement::{Placed, Reason, Untreated};
 use refusal::Refusal;
 use stats::CorrectionStats;
@@ -42,40 +39,34 @@ impl Answer {
     }
 }
 
-// A record that was not good, as the call's answer.
-pub fn refused(c: Result<Layout, Refusal>) -> Answer
-    ensures { result ≡ refused_answer c }
-{
-    match c {
-        Ok(_) => Answer::Overlap,
-        Err(r) => Answer::Refused(r),
+impl From<Untreated> for Answer {
+    ghost from_gives = { λ u a. a ≡ untreated_answer u };
+
+    fn from(untreated: Untreated) -> Answer {
+        match untreated {
+            Untreated::Refused(refusal) => Answer::Refused(refusal),
+            Untreated::Apart(reason) => Answer::NoOverlap(reason),
+        }
     }
 }
 
-// Two records that were judged to be on one reference: treated, and answered by what they share.
-fn call_both(
-    w: Strategies,
-    first: &mut [u8],
-    second: &mut [u8],
-    a: Placed,
-    b: Placed,
-    stats: CorrectionStats,
-) -> Called
-    requires { Ready a.layout b.layout a.extent b.extent first.old second.old × Room stats 131072 }
-    ensures { outcome result.answer (state first.new second.new result.stats) ≡ on_judged w a.layout b.layout (state first.old second.old stats) (Ok (a.extent , b.extent)) }
+// Two records judged by their bytes alone, each checked first: where both lie on one reference, or why
+// they are not treated.
+pub fn judged(first: &[u8], second: &[u8]) -> Result<(Placed, Placed), Untreated>
+    ensures { result ≡ placed_of first.now second.now }
 {
-    let met = pair_judgement::treat(w, first, second, a, b, stats);
-    let after = met.stats;
-    if met.shared == 0 {
-        return Called {
-            answer: Answer::NoOverlap(pair_judgement::unshared(a.extent, b.extent)),
-            stats: after,
-        };
-    }
-    Called {
-        answer: Answer::Overlap,
-        stats: after,
-    }
+    let y = fields::check_record(first, 1)?;
+    let z = fields::check_record(second, 2)?;
+    let (p, q) = pair_judgement::judge(first, second, y, z, 1, 2)?;
+    let a = Placed {
+        layout: y,
+        extent: p,
+    };
+    let b = Placed {
+        layout: z,
+        extent: q,
+    };
+    Ok((a, b))
 }
 
 // The call with a cap that is one: the order of judgement from the statistics on.
@@ -88,41 +79,24 @@ fn call_capped(first: &mut [u8], second: &mut [u8], w: Strategies, stats: Correc
             stats,
         };
     }
-    let checked1 = fields::check_record(first, 1);
-    let Ok(y) = checked1 else {
-        return Called {
-            answer: refused(checked1),
-            stats,
-        };
-    };
-    let checked2 = fields::check_record(second, 2);
-    let Ok(z) = checked2 else {
-        return Called {
-            answer: refused(checked2),
-            stats,
-        };
-    };
-    let judged = pair_judgement::judge(first, second, y, z, 1, 2);
-    match judged {
-        Err(Untreated::Refused(r)) => Called {
-            answer: Answer::Refused(r),
-            stats,
-        },
-        Err(Untreated::Apart(r)) => Called {
-            answer: Answer::NoOverlap(r),
-            stats,
-        },
-        Ok((p, q)) => {
-            let a = Placed {
-                layout: y,
-                extent: p,
+    let (a, b) = match judged(first, second) {
+        Ok(placed) => placed,
+        Err(untreated) => {
+            return Called {
+                answer: Answer::from(untreated),
+                stats,
             };
-            let b = Placed {
-                layout: z,
-                extent: q,
-            };
-            call_both(w, first, second, a, b, stats)
         }
+    };
+    let met = pair_judgement::treat(w, first, second, a, b, stats);
+    let answer = if met.shared == 0 {
+        Answer::NoOverlap(pair_judgement::unshared(a.extent, b.extent))
+    } else {
+        Answer::Overlap
+    };
+    Called {
+        answer,
+        stats: met.stats,
     }
 }
 
