@@ -94,7 +94,7 @@ judged_by y z h k ops ops' =
     cond (has_bit h.flags unmapped || has_bit k.flags unmapped) (Err (Untreateds.Apart Unmapped))
     (cond (same_id h.ref_id k.ref_id)
     (on_position (position_of h.pos) (λ p. on_position (position_of k.pos) (λ q.
-    on_span (span_by y ops p 1) (λ s. on_span (span_by z ops' q 2) (λ t. Ok (s , t))))))
+    on_span (span_by y ops p 1) (λ s. on_span (span_by z ops' q 2) (λ t. Ok (s, t))))))
     (Err (Untreateds.Apart ReferencesDiffer)))
 
 shared_by : Layout → Layout → RefPos → RefPos → List ℕ → List ℕ → List (ℕ × ℕ)
@@ -119,7 +119,7 @@ module _ {a a' b b' : List ℕ} (f : Front a a') (g : Front b b') where
   both_same : (j : Judged) → on_both (layout_of a) (layout_of b) a' b' j ≡ on_both (layout_of a) (layout_of b) a b j
   both_same (Err (Untreateds.Refused r)) = refl
   both_same (Err (Untreateds.Apart r)) = refl
-  both_same (Ok (p , q)) =
+  both_same (Ok (p, q)) =
       ap (λ (l : List (ℕ × ℕ)). cond (lengthless p q) (Answers.NoOverlap NoReferenceLength) (answer_of l)) (shared_same p.start q.start)
 
   front_answer : answer_on a' b' ≡ answer_on a b
@@ -157,7 +157,7 @@ module _ (w : Strategies) (s : State) where
   unfolding merged
   judged_fronts (Err (Untreateds.Refused r)) = unchanged s
   judged_fronts (Err (Untreateds.Apart r)) = unchanged s
-  judged_fronts (Ok (p , q)) = go (lengthless p q)
+  judged_fronts (Ok (p, q)) = go (lengthless p q)
     where
       go : (t : Bool) → Fronts s (on_reference w y z s p.start q.start t).after
       go true = unchanged s

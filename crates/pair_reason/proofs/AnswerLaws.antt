@@ -12,7 +12,6 @@ use borrow.Author.Tests.{ltb-true, ltb-false}
 use Rattle.refusal.specs.declared.Refusal.{Refusal}
 use Rattle.fields.specs.declared.Layout.{Layout}
 use Rattle.fields.specs.Check.{check_of}
-use Rattle.fields.specs.Sound.{Sound}
 use Rattle.cigar.specs.declared.Extent.{Extent}
 use Rattle.stats.specs.Counts.{full}
 use Rattle.strategy.specs.declared.Strategies.{Strategies}
@@ -21,15 +20,14 @@ use Rattle.positions.specs.Step.{State}
 use Rattle.pair_merge.specs.Shared.{shared}
 use Rattle.pair_judgement.specs.declared.Reason.{Reason}
 use Rattle.pair_judgement.specs.declared.Reason.TheVariants.{NoReferenceLength, NoSharedPosition}
-use Rattle.pair_judgement.specs.Judgement.{on_span, span_in, judged_of, Judged}
+use Rattle.pair_judgement.specs.Judgement.{judged_of, Judged}
 use Rattle.pair_judgement.specs.Reason.{lengthless, unshared_of}
-use Rattle.pair_judgement.specs.Where.{where_of}
 use Rattle.pair_judgement.specs.Ready.{Ready}
 use Rattle.pair_judgement.proofs.TreatLaws.{Known, both_known, none_reached}
-use Rattle.pair_judgement.proofs.JudgeLaws.{judged_as, first_span, second_span, both_spans}
+use Rattle.pair.specs.declared.Answer.{Answer}
 use Rattle.pair.specs.declared.Answer.TheVariants as Answers
-use Rattle.pair.specs.Pair.{answer_of, on_reference, on_judged, on_good, refused_answer, records_of, pair_of}
-use Rattle.pair_reason.specs.Reason.{span_answer, on_both, on_sound, answer_on}
+use Rattle.pair.specs.Pair.{answer_of, on_reference, on_judged, on_good, untreated_answer, Both, placed, on_checked, placed_of, records_of, pair_of}
+use Rattle.pair_reason.specs.Reason.{on_both, on_sound, answer_on}
 
 -- ---- two records on one reference, by whether they share a position
 module _ (y z : Layout) (p q : Extent) (a b : List ℕ) (known : Ready y z p q a b) (t : Bool) (e : t ≡ ltb 0 (length (shared y z p.start q.start a b))) where
@@ -37,7 +35,7 @@ module _ (y z : Layout) (p q : Extent) (a b : List ℕ) (known : Ready y z p q a
   met = shared y z p.start q.start a b
 
   -- they do: then both have a length on the reference
-  pub some_shared : t ≡ true → Answers.Overlap ≡ on_both y z a b (Ok (p , q))
+  pub some_shared : t ≡ true → Answers.Overlap ≡ on_both y z a b (Ok (p, q))
   some_shared f = go (lengthless p q) refl
     where
       k : Known y z a b p q
@@ -54,7 +52,7 @@ module _ (y z : Layout) (p q : Extent) (a b : List ℕ) (known : Ready y z p q a
       go false g = some met (sym e ∙ f)
 
   -- they don't
-  pub none_shared : (r : Reason) → r ≡ unshared_of p q → t ≡ false → Answers.NoOverlap r ≡ on_both y z a b (Ok (p , q))
+  pub none_shared : (r : Reason) → r ≡ unshared_of p q → t ≡ false → Answers.NoOverlap r ≡ on_both y z a b (Ok (p, q))
   none_shared r h f = go (lengthless p q) h
     where
       none : (l : List (ℕ × ℕ)) → ltb 0 (length l) ≡ false → Answers.NoOverlap NoSharedPosition ≡ answer_of l
@@ -65,44 +63,28 @@ module _ (y z : Layout) (p q : Extent) (a b : List ℕ) (known : Ready y z p q a
       go true g = ap Answers.NoOverlap g
       go false g = ap Answers.NoOverlap g ∙ none met (sym e ∙ f)
 
--- ---- the order of judgement
-module _ (a b : List ℕ) where
-  pub answer_first : (k : Result Layout Refusal) (r : Refusal) → k ≡ check_of a 1 → k ≡ Err r → refused_answer k ≡ answer_on a b
-  unfolding answer_on
-  answer_first k r e f = ap refused_answer f ∙ rw (sym e ∙ f)
+-- ---- by what the records were found to be
+abbrev pub on_found : List ℕ → List ℕ → Both → Answer
+on_found a b (Err u) = untreated_answer u
+on_found a b (Ok (x, y)) = on_both x.layout y.layout a b (Ok (x.extent, y.extent))
 
-  module _ (y : Layout) (good₁ : check_of a 1 ≡ Ok y) where
-    pub answer_second : (k : Result Layout Refusal) (r : Refusal) → k ≡ check_of b 2 → k ≡ Err r → refused_answer k ≡ answer_on a b
-    unfolding answer_on
-    answer_second k r e f = ap refused_answer f ∙ rw (good₁, sym e ∙ f)
+pub found_answer : (a b : List ℕ) → on_found a b (placed_of a b) ≡ answer_on a b
+unfolding placed_of answer_on
+found_answer a b = one (check_of a 1)
+  where
+    both : (y z : Layout) (j : Judged) → on_found a b (placed y z j) ≡ on_both y z a b j
+    both y z (Err (Untreateds.Refused r)) = refl
+    both y z (Err (Untreateds.Apart r)) = refl
+    both y z (Ok (p, q)) = refl
 
-    pub answer_both : (z : Layout) → check_of b 2 ≡ Ok z → on_both y z a b (judged_of y z a b 1 2) ≡ answer_on a b
-    unfolding answer_on
-    answer_both z good₂ = rw (good₁, good₂)
+    two : (y : Layout) (k : Result Layout Refusal) → on_found a b (on_checked k (λ z. placed y z (judged_of y z a b 1 2))) ≡ on_sound k (λ z. on_both y z a b (judged_of y z a b 1 2))
+    two y (Ok z) = both y z (judged_of y z a b 1 2)
+    two y (Err r) = refl
 
--- ---- steps 4 to 7, where both records are sound
-module _ (y z : Layout) (a b : List ℕ) where
-  abbrev On : ℕ → ℕ → Type 0
-  On p q = where_of a b ≡ Ok (p , q)
-
-  pub answer_apart : (k : Result (ℕ × ℕ) Reason) (r : Reason) → k ≡ where_of a b → k ≡ Err r → Answers.NoOverlap r ≡ on_both y z a b (judged_of y z a b 1 2)
-  answer_apart k r e f = ap (on_both y z a b) (judged_as y z a b 1 2 k e (Err r) f)
-
-  module _ (p q : ℕ) (on : On p q) where
-    pub first_answer : (x : Result Extent Refusal) (r : Refusal) → x ≡ span_in y a p 1 → x ≡ Err r → span_answer x ≡ on_both y z a b (judged_of y z a b 1 2)
-    first_answer x r e f = ap span_answer f ∙ ap (on_both y z a b) (sym (ap (λ (v : Result Extent Refusal). on_span v (λ s. Ok (s , s))) f) ∙ first_span y z a b 1 2 (where_of a b) refl p q on x r e f)
-
-    pub second_answer : (s : Extent) (x u : Result Extent Refusal) (r : Refusal) → x ≡ span_in y a p 1 → x ≡ Ok s → u ≡ span_in z b q 2 → u ≡ Err r
-        → span_answer u ≡ on_both y z a b (judged_of y z a b 1 2)
-    second_answer s x u r e f g h = ap span_answer h ∙ ap (on_both y z a b) (sym (ap (λ (v : Result Extent Refusal). on_span v (λ t. Ok (t , t))) h) ∙ second_span y z a b 1 2 (where_of a b) refl p q on s x u r e f g h)
-
-    pub both_answer : (s t : Extent) (x u : Result Extent Refusal) → x ≡ span_in y a p 1 → x ≡ Ok s → u ≡ span_in z b q 2 → u ≡ Ok t → on_both y z a b (Ok (s , t)) ≡ on_both y z a b (judged_of y z a b 1 2)
-    both_answer s t x u e f g h = ap (on_both y z a b) (both_spans y z a b 1 2 (where_of a b) refl p q on s t x u e f g h)
-
-    -- two sound records on one reference that cover s and t
-    pub both_ready : (s t : Extent) (x u : Result Extent Refusal) → Sound a y → Sound b z → x ≡ span_in y a p 1 → x ≡ Ok s → u ≡ span_in z b q 2 → u ≡ Ok t → Ready y z s t a b
-    both_ready s t x u l l' e f g h =
-        record { first = l; second = l'; place₁ = 1; place₂ = 2; both = sym (both_spans y z a b 1 2 (where_of a b) refl p q on s t x u e f g h) }
+    one : (k : Result Layout Refusal) → on_found a b (on_checked k (λ y. on_checked (check_of b 2) (λ z. placed y z (judged_of y z a b 1 2))))
+        ≡ on_sound k (λ y. on_sound (check_of b 2) (λ z. on_both y z a b (judged_of y z a b 1 2)))
+    one (Ok y) = two y (check_of b 2)
+    one (Err r) = refl
 
 -- ---- the pair call's answer, whatever its strategies and its counts
 module _ (w : Strategies) (s : State) where
@@ -112,7 +94,7 @@ module _ (w : Strategies) (s : State) where
   both_answers : (y z : Layout) (j : Judged) → on_both y z s.first s.second j ≡ (on_judged w y z s j).answer
   both_answers y z (Err (Untreateds.Refused r)) = refl
   both_answers y z (Err (Untreateds.Apart r)) = refl
-  both_answers y z (Ok (p , q)) = go (lengthless p q)
+  both_answers y z (Ok (p, q)) = go (lengthless p q)
     where
       go : (c : Bool) → cond c (Answers.NoOverlap NoReferenceLength) (answer_of (shared y z p.start q.start s.first s.second)) ≡ (on_reference w y z s p.start q.start c).answer
       go true = refl

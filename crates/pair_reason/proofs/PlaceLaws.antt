@@ -80,14 +80,14 @@ abbrev Either : Refusal → Type 0
 Either r = AtPlace 1 r ⊎ AtPlace 2 r
 
 module _ (y z : Layout) (a b : List ℕ) (r : Refusal) where
-  spans_place : (p q : ℕ) → on_span (span_in y a p 1) (λ s. on_span (span_in z b q 2) (λ t. Ok (s , t))) ≡ Err (Untreateds.Refused r) → Either r
+  spans_place : (p q : ℕ) → on_span (span_in y a p 1) (λ s. on_span (span_in z b q 2) (λ t. Ok (s, t))) ≡ Err (Untreateds.Refused r) → Either r
   spans_place p q e = one (span_in y a p 1) refl e
     where
-      two : (s : Extent) (v : Result Extent Refusal) → span_in z b q 2 ≡ v → on_span v (λ t. Ok (s , t)) ≡ Err (Untreateds.Refused r) → Either r
+      two : (s : Extent) (v : Result Extent Refusal) → span_in z b q 2 ≡ v → on_span v (λ t. Ok (s, t)) ≡ Err (Untreateds.Refused r) → Either r
       two s (Ok t) f g = let n : ◌≡◌ {A = ℕ} 0 1 = cc in absurd (omega arith)
       two s (Err x) f g = let h : x ≡ r = cc in inr (span_names 2 z b q r (f ∙ ap Err h))
 
-      one : (u : Result Extent Refusal) → span_in y a p 1 ≡ u → on_span u (λ s. on_span (span_in z b q 2) (λ t. Ok (s , t))) ≡ Err (Untreateds.Refused r) → Either r
+      one : (u : Result Extent Refusal) → span_in y a p 1 ≡ u → on_span u (λ s. on_span (span_in z b q 2) (λ t. Ok (s, t))) ≡ Err (Untreateds.Refused r) → Either r
       one (Ok s) f g = two s (span_in z b q 2) refl g
       one (Err x) f g = let h : x ≡ r = cc in inl (span_names 1 y a p r (f ∙ ap Err h))
 
@@ -96,7 +96,7 @@ module _ (y z : Layout) (a b : List ℕ) (r : Refusal) where
   judged_place e = go (has_bit (header a).flags unmapped || has_bit (header b).flags unmapped) (same_id (header a).ref_id (header b).ref_id) (position_of (header a).pos) (position_of (header b).pos) e
     where
       go : (t u : Bool) (k l : Option ℕ) → cond t (Err (Untreateds.Apart Unmapped)) (cond u
-          (on_position k (λ p. on_position l (λ q. on_span (span_in y a p 1) (λ s. on_span (span_in z b q 2) (λ t. Ok (s , t))))))
+          (on_position k (λ p. on_position l (λ q. on_span (span_in y a p 1) (λ s. on_span (span_in z b q 2) (λ t. Ok (s, t))))))
           (Err (Untreateds.Apart ReferencesDiffer))) ≡ Err (Untreateds.Refused r) → Either r
       go true u k l f = let n : ◌≡◌ {A = ℕ} 0 1 = cc in absurd (omega arith)
       go false false k l f = let n : ◌≡◌ {A = ℕ} 0 1 = cc in absurd (omega arith)
@@ -107,7 +107,7 @@ module _ (y z : Layout) (a b : List ℕ) (r : Refusal) where
   both_place : (j : Judged) → judged_of y z a b 1 2 ≡ j → on_both y z a b j ≡ Answers.Refused r → Either r
   both_place (Err (Untreateds.Refused q)) e f = let h : q ≡ r = cc in judged_place (e ∙ ap (λ (x : Refusal). Err (Untreateds.Refused x)) h)
   both_place (Err (Untreateds.Apart x)) e f = let n : ◌≡◌ {A = ℕ} 0 1 = cc in absurd (omega arith)
-  both_place (Ok (p , q)) e f = go (lengthless p q) (shared y z p.start q.start a b) f
+  both_place (Ok (p, q)) e f = go (lengthless p q) (shared y z p.start q.start a b) f
     where
       go : (c : Bool) (l : List (ℕ × ℕ)) → cond c (Answers.NoOverlap NoReferenceLength) (answer_of l) ≡ Answers.Refused r → Either r
       go true l g = let n : ◌≡◌ {A = ℕ} 0 1 = cc in absurd (omega arith)

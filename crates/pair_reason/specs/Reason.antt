@@ -1,7 +1,6 @@
 -- The pair call's answer by the records alone, and its number in the call that gives the reason. (Laws: whatever strategies and counts it is
 -- given, the pair call answers so unless it is refused for its counts.)
 use Rattle.refusal.specs.declared.Refusal.{Refusal}
-use Rattle.cigar.specs.declared.Extent.{Extent}
 use Rattle.pair_judgement.specs.declared.Untreated.TheVariants as Untreateds
 use Rattle.std.specs.Prelude.{ℕ, List, cond, Result, Ok, Err}
 use Rattle.refusal.specs.Table.{operation_code_of}
@@ -15,15 +14,11 @@ use Rattle.pair.specs.declared.Answer.{Answer}
 use Rattle.pair.specs.declared.Answer.TheVariants as Answers
 use Rattle.pair.specs.Pair.{answer_of}
 
-abbrev pub span_answer : Result Extent Refusal → Answer
-span_answer (Ok e) = Answers.Overlap
-span_answer (Err r) = Answers.Refused r
-
 -- what was judged by steps 4 to 7; then whether each record has a length on the reference; then steps 8 and 9
 abbrev pub on_both : Layout → Layout → List ℕ → List ℕ → Judged → Answer
 on_both y z a b (Err (Untreateds.Refused r)) = Answers.Refused r
 on_both y z a b (Err (Untreateds.Apart r)) = Answers.NoOverlap r
-on_both y z a b (Ok (p , q)) = cond (lengthless p q) (Answers.NoOverlap NoReferenceLength) (answer_of (shared y z p.start q.start a b))
+on_both y z a b (Ok (p, q)) = cond (lengthless p q) (Answers.NoOverlap NoReferenceLength) (answer_of (shared y z p.start q.start a b))
 
 abbrev pub on_sound : Result Layout Refusal → (Layout → Answer) → Answer
 on_sound (Ok y) rest = rest y
