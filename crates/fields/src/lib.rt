@@ -21,7 +21,9 @@ fn bytes_at<const W: usize>(s: &[u8], at: usize) -> [u8; W]
     requires { at + W ≤ length s.now }
     ensures { result ≡ take W (drop at s.now) }
 {
-    s[at..].first_chunk().copied().unwrap()
+    let mut bytes = [0; W];
+    bytes.copy_from_slice(&s[at..at + W]);
+    bytes
 }
 
 // The number that the two bytes from `at` on hold, least byte first.
