@@ -2,7 +2,7 @@
 // chosen by value, so that a loop over lanes has no branch and is done many lanes at a time.
 #![tactic(auto)]
 
-ghost use Rattle.std.specs.Prelude.{◌≡◌, ◌+◌, min, max};
+ghost use Rattle.std.specs.Prelude.{◌≡◌};
 ghost use Rattle.stats.specs.Counts.{counts};
 ghost use Rattle.lane.specs.LaneRule.{chosen, changed_of, agreed_of, chosen_of};
 
@@ -16,39 +16,18 @@ pub struct Qualities {
     pub qual2: u8,
 }
 
-fn smaller(a: u8, b: u8) -> u8
-    ensures { result ≡ min a b }
-{
-    if a < b { a } else { b }
-}
-
-// The larger of two numbers.
-pub fn larger(a: u8, b: u8) -> u8
-    ensures { result ≡ max a b }
-{
-    if a < b { b } else { a }
-}
-
-// The sum, or 255 where it is larger.
-fn summed(a: u8, b: u8) -> u8
-    ensures { result ≡ min (a + b) 255 }
-{
-    if 255 - b < a { 255 } else { a + b }
-}
-
 // What the qualities a and b become where the bases agree.
 pub fn agreed(w: Strategies, a: u8, b: u8) -> Qualities
     ensures { result ≡ agreed_of w a b }
 {
-    let m = w.agreement;
     let most = w.most();
-    match m {
+    match w.agreement {
         AgreementStrategy::Consensus => {
-            let q = smaller(summed(a, b), most);
+            let q = a.saturating_add(b).min(most);
             Qualities { qual1: q, qual2: q }
         }
         AgreementStrategy::MaxQual => {
-            let q = smaller(larger(a, b), most);
+            let q = a.max(b).min(most);
             Qualities { qual1: q, qual2: q }
         }
         AgreementStrategy::PassThrough => Qualities { qual1: a, qual2: b },
@@ -59,20 +38,7 @@ pub fn agreed(w: Strategies, a: u8, b: u8) -> Qualities
 pub fn changed(a: u8, b: u8, p: u8, q: u8) -> u8
     ensures { result ≡ changed_of a b p q }
 {
-    if a == p {
-        if b == q {
-            return 0;
-        }
-        return 1;
-    }
-    1
-}
-
-// A small number, as wide as a count.
-pub fn wide(x: u8) -> u64
-    ensures { result ≡ x }
-{
-    x as u64
+    u8::from(a != p || b != q)
 }
 
 // The counts of so many agreements, of which so many changed a quality.

@@ -76,7 +76,7 @@ pub fn treat_row(
             first[yq + p.0] = r.qual1;
             second[zq + q.0] = r.qual2;
             agreeing += 1;
-            corrected += lane::wide(lane::changed(a.quality, b.quality, r.qual1, r.qual2));
+            corrected += u64::from(lane::changed(a.quality, b.quality, r.qual1, r.qual2));
             t += 1;
         } else {
             h = treat_one(w, first, second, y, z, p, q, h);

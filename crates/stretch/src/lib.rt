@@ -14,10 +14,11 @@ fn word(s: &[u8], at: usize, odd: usize) -> u64
     ensures { Holds s.now (2 * at + odd) result }
 {
     if odd == 0 {
-        return fields::u64_at(s, at);
+        fields::u64_at(s, at)
+    } else {
+        ((fields::u64_at(s, at) & 0x0f0f_0f0f_0f0f_0f0f) << 4)
+            | ((fields::u64_at(s, at + 1) >> 4) & 0x0f0f_0f0f_0f0f_0f0f)
     }
-    ((fields::u64_at(s, at) & 0x0f0f_0f0f_0f0f_0f0f) << 4)
-        | ((fields::u64_at(s, at + 1) >> 4) & 0x0f0f_0f0f_0f0f_0f0f)
 }
 
 // Not 0 in each half in which a and b differ or a is N.
@@ -45,9 +46,10 @@ fn first_marked(x: u64) -> usize
     }
     let j = first_byte(x);
     if (x >> (8 * j + 4)) % 16 != 0 {
-        return 2 * j;
+        2 * j
+    } else {
+        2 * j + 1
     }
-    2 * j + 1
 }
 
 // How many halves of a and b, from the first on, are the same base and not N.
@@ -55,12 +57,6 @@ fn first_unwell(a: u64, b: u64) -> usize
     ensures { Stretch a b result }
 {
     first_marked(unwell(a, b))
-}
-
-fn smaller(a: usize, b: usize) -> usize
-    ensures { result ≡ min a b }
-{
-    if a < b { a } else { b }
 }
 
 // How many of n positions agree before the first that doesn't: from base i of the first record and base j of the
@@ -81,15 +77,13 @@ pub fn agreeing(
     let at2 = z.bases + j.0 / 2;
     let odd1 = i.0 % 2;
     let odd2 = j.0 % 2;
-    let mut t = 0;
-    while t < n {
-        let a = word(first, at1 + t / 2, odd1);
-        let b = word(second, at2 + t / 2, odd2);
-        let k = first_unwell(a, b);
-        if k < 16 {
-            return smaller(t + k, n);
+    for k in 0..n.div_ceil(16) {
+        let a = word(first, at1 + 8 * k, odd1);
+        let b = word(second, at2 + 8 * k, odd2);
+        let same = first_unwell(a, b);
+        if same < 16 {
+            return (16 * k + same).min(n);
         }
-        t += 16;
     }
     n
 }

@@ -1,6 +1,6 @@
 -- Loops that fill a block, the table of the lanes that are treated, and the loop that stores an array.
 use Prim.Native.Nat.{ℕ, suc, ◌+◌, ◌-◌, ◌≤◌, ◌<◌}
-use mathlib.Core.Path.{◌≡◌, refl, sym, ap, ap₂, ◌∙◌}
+use mathlib.Core.Path.{◌≡◌, refl, sym, ap, ◌∙◌}
 use mathlib.Core.List.{List, ◌++◌}
 use mathlib.Core.Bool.{cond, ◌&&◌}
 use mathlib.Core.Logic.{⊎_elim}
@@ -11,8 +11,6 @@ use lib.Seq.{get_or-set_same, get_or-set_other, drop-cons, sets, get_or-append-a
 use lib.Dec.{ltb, eqb}
 use borrow.Author.Tests.{lt-ltb, le-ltb}
 use Rattle.fields.proofs.Arith.{eq_or_ne, lt_or_le}
-use Rattle.strategy.specs.declared.AgreementStrategy.{AgreementStrategy}
-use Rattle.strategy.specs.declared.DisagreementStrategy.{DisagreementStrategy}
 use Rattle.strategy.specs.declared.Strategies.{Strategies}
 use Rattle.lane.specs.declared.Qualities.{Qualities}
 use Rattle.lane.specs.LaneRule.{agreed_of, changed_of, chosen_of}
@@ -88,15 +86,9 @@ module _ (w : Strategies) (a : List ℕ) (p : ℕ) (b : List ℕ) (q d : ℕ) wh
         corrected = so.corrected ∙ ap (sum_of (change_at w a p b q d) 0) e;
       }
 
--- ---- strategies that are made anew with the agreement that they have are the same
-pub same_strategies : (w k : Strategies) (m : AgreementStrategy) → (k.agreement ≡ m) × (k.disagreement ≡ w.disagreement) × (k.cap ≡ w.cap) → w.agreement ≡ m → k ≡ w
-same_strategies w k m e f =
-    ap (λ (x : AgreementStrategy). record { agreement = x; disagreement = k.disagreement; cap = k.cap }) (e.0 ∙ sym f)
-    ∙ ap₂ (λ (x : DisagreementStrategy) (y : ℕ). record { agreement = w.agreement; disagreement = x; cap = y }) e.1 e.2
-
 -- ---- the lanes as the code makes them
-pub lane_whole : (w : Strategies) (a : List ℕ) (p : ℕ) (b : List ℕ) (q t : ℕ) (r : Qualities) → r ≡ agreed_of w (get_or a (p + t) 0) (get_or b (q + t) 0) → r ≡ lane_at w a p b q 0 t
-lane_whole w a p b q t r e = rw (le-ltb t 0 (omega arith)) e
+pub lane_whole : (w : Strategies) (a : List ℕ) (p : ℕ) (b : List ℕ) (q d t : ℕ) (r : Qualities) → d ≡ 0 → r ≡ agreed_of w (get_or a (p + t) 0) (get_or b (q + t) 0) → r ≡ lane_at w a p b q d t
+lane_whole w a p b q d t r z e = rw (z, le-ltb t 0 (omega arith)) e
 
 -- a 1 for each of the last n lanes, from n on
 abbrev pub live_table : List ℕ

@@ -55,7 +55,7 @@ overflow_add-corrected c =
       c.requires.2,
       c.requires.0.qualities,
       c.well_formed.1.0.0,
-      c.wide-corrected.ensures,
+      c.from-corrected.ensures,
       c.changed.ensures,
     )
 
@@ -70,11 +70,11 @@ loop-t-preserved-then-a-b c =
     adding_agreed args.w args.y args.z args.i.0 args.j.0 args.n
     (state args.first.now args.second.now args.g) loop.t loop.first loop.second loop.h loop.agreeing
     loop.corrected (record { first = c.requires.0; second = c.requires.1 }) c.requires.2 c.requires.3
-    c.loop-t-test.true loop.invariant c.agreed-r.result c.wide-corrected.result
+    c.loop-t-test.true loop.invariant c.agreed-r.result c.from-corrected.result
     (sym c.get-a.ensures.base ∙ (c.if-a-b.true ∙ c.get-b.ensures.base))
     (λ e. c.if-a-eq-N.false (c.get-a.ensures.base ∙ e))
     (rw (c.get-a.ensures.quality, c.get-b.ensures.quality) at c.agreed-r.ensures)
-    (rw (c.get-a.ensures.quality, c.get-b.ensures.quality) at (c.wide-corrected.ensures ∙ c.changed.ensures))
+    (rw (c.get-a.ensures.quality, c.get-b.ensures.quality) at (c.from-corrected.ensures ∙ c.changed.ensures))
 
 pub treat_one-h-requires : goal.treat_one-h-requires
 treat_one-h-requires c =

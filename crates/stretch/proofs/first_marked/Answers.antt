@@ -8,5 +8,5 @@ returns-then-x-eq0 c = first_none c.args.x c.if-x-eq0.true
 pub returns-then-x-j-ne0 : goal.returns-then-x-j-ne0
 returns-then-x-j-ne0 c = first_high c.args.x c.first_byte-j.result c.first_byte-j.ensures c.if-x-j-ne0.true
 
-pub returns : goal.returns
-returns c = first_low c.args.x c.first_byte-j.result c.first_byte-j.ensures c.if-x-j-ne0.false
+pub returns-else-x-j-ne0 : goal.returns-else-x-j-ne0
+returns-else-x-j-ne0 c = first_low c.args.x c.first_byte-j.result c.first_byte-j.ensures c.if-x-j-ne0.false

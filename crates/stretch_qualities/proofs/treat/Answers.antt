@@ -12,10 +12,10 @@ pub overflow_sub-n : goal.overflow_sub-n
 overflow_sub-n c =
     omega (arith, c.loop-t.invariant.low)
 
-pub treat_whole-corrected-requires : goal.treat_whole-corrected-requires
-treat_whole-corrected-requires c =
+pub treat_block-corrected-requires : goal.treat_block-corrected-requires
+treat_block-corrected-requires c =
     let loop = c.loop-t in
-    (omega (arith, loop.invariant.first), omega (arith, loop.invariant.second))
+    (omega (arith, loop.invariant.first), omega (arith, loop.invariant.second), omega arith, λ e. refl)
 
 pub overflow_add-corrected : goal.overflow_add-corrected
 overflow_add-corrected c =
@@ -24,8 +24,8 @@ overflow_add-corrected c =
     omega (
       arith,
       (going_more args.w args.p args.q args.n (stretched args.first.now args.second.now 0)
-          loop.t 32 _ _ loop.first loop.second loop.corrected _ _ c.treat_whole-corrected.result
-          (omega (arith, c.loop-t-test.true)) refl refl loop.invariant c.treat_whole-corrected.ensures).few,
+          loop.t 32 _ _ loop.first loop.second loop.corrected _ _ c.treat_block-corrected.result
+          (omega (arith, c.loop-t-test.true)) (omega arith) (omega arith) loop.invariant c.treat_block-corrected.ensures).few,
     )
 
 pub loop-t-preserved : goal.loop-t-preserved
@@ -33,18 +33,18 @@ loop-t-preserved c =
     let args = c.args in
     let loop = c.loop-t in
     going_more args.w args.p args.q args.n (stretched args.first.now args.second.now 0)
-    loop.t 32 _ _ loop.first loop.second loop.corrected _ _ c.treat_whole-corrected.result
-    (omega (arith, c.loop-t-test.true)) refl refl loop.invariant c.treat_whole-corrected.ensures
+    loop.t 32 _ _ loop.first loop.second loop.corrected _ _ c.treat_block-corrected.result
+    (omega (arith, c.loop-t-test.true)) (omega arith) (omega arith) loop.invariant c.treat_block-corrected.ensures
 
 pub overflow_sub-n-then-t-n : goal.overflow_sub-n-then-t-n
 overflow_sub-n-then-t-n c =
     let loop = c.loop-t in
     omega (arith, loop.invariant.low)
 
-pub treat_last-corrected-requires : goal.treat_last-corrected-requires
-treat_last-corrected-requires c =
+pub treat_block-corrected-requires-then-t-n : goal.treat_block-corrected-requires-then-t-n
+treat_block-corrected-requires-then-t-n c =
     let loop = c.loop-t in
-    (omega (arith, c.requires.0), omega (arith, loop.invariant.first, c.requires.1), omega (arith, c.requires.2), omega (arith, loop.invariant.second, c.requires.3), omega (arith, c.loop-t-test.false))
+    (omega (arith, loop.invariant.first, c.requires.1), omega (arith, loop.invariant.second, c.requires.3), omega (arith, c.loop-t-test.false), λ e. cc)
 
 pub overflow_add-corrected-then-t-n : goal.overflow_add-corrected-then-t-n
 overflow_add-corrected-then-t-n c =
@@ -53,8 +53,8 @@ overflow_add-corrected-then-t-n c =
     omega (
       arith,
       (going_more args.w args.p args.q args.n (stretched args.first.now args.second.now 0)
-          loop.t (args.n - loop.t) _ _ loop.first loop.second loop.corrected _ _ c.treat_last-corrected.result
-          (omega (arith, loop.invariant.low)) (omega (arith, loop.invariant.low)) (omega (arith, loop.invariant.low)) loop.invariant c.treat_last-corrected.ensures).few,
+          loop.t (args.n - loop.t) _ _ loop.first loop.second loop.corrected _ _ c.treat_block-corrected-then-t-n.result
+          (omega (arith, loop.invariant.low)) (omega (arith, loop.invariant.low, c.requires.0, c.loop-t-test.false)) (omega (arith, loop.invariant.low, c.requires.2, c.loop-t-test.false)) loop.invariant c.treat_block-corrected-then-t-n.ensures).few,
     )
 
 pub shape_of-first-then-t-n : goal.shape_of-first-then-t-n
@@ -62,24 +62,24 @@ shape_of-first-then-t-n c =
     let args = c.args in
     let loop = c.loop-t in
     (going_more args.w args.p args.q args.n (stretched args.first.now args.second.now 0)
-    loop.t (args.n - loop.t) _ _ loop.first loop.second loop.corrected _ _ c.treat_last-corrected.result
-    (omega (arith, loop.invariant.low)) (omega (arith, loop.invariant.low)) (omega (arith, loop.invariant.low)) loop.invariant c.treat_last-corrected.ensures).first
+    loop.t (args.n - loop.t) _ _ loop.first loop.second loop.corrected _ _ c.treat_block-corrected-then-t-n.result
+    (omega (arith, loop.invariant.low)) (omega (arith, loop.invariant.low, c.requires.0, c.loop-t-test.false)) (omega (arith, loop.invariant.low, c.requires.2, c.loop-t-test.false)) loop.invariant c.treat_block-corrected-then-t-n.ensures).first
 
 pub shape_of-second-then-t-n : goal.shape_of-second-then-t-n
 shape_of-second-then-t-n c =
     let args = c.args in
     let loop = c.loop-t in
     (going_more args.w args.p args.q args.n (stretched args.first.now args.second.now 0)
-    loop.t (args.n - loop.t) _ _ loop.first loop.second loop.corrected _ _ c.treat_last-corrected.result
-    (omega (arith, loop.invariant.low)) (omega (arith, loop.invariant.low)) (omega (arith, loop.invariant.low)) loop.invariant c.treat_last-corrected.ensures).second
+    loop.t (args.n - loop.t) _ _ loop.first loop.second loop.corrected _ _ c.treat_block-corrected-then-t-n.result
+    (omega (arith, loop.invariant.low)) (omega (arith, loop.invariant.low, c.requires.0, c.loop-t-test.false)) (omega (arith, loop.invariant.low, c.requires.2, c.loop-t-test.false)) loop.invariant c.treat_block-corrected-then-t-n.ensures).second
 
 pub returns-then-t-n : goal.returns-then-t-n
 returns-then-t-n c =
     let args = c.args in
     let loop = c.loop-t in
     going_end args.w args.p args.q args.n (stretched args.first.now args.second.now 0) _ _ _ _ (omega (arith, loop.invariant.low)) refl (going_more args.w args.p args.q args.n (stretched args.first.now args.second.now 0)
-    loop.t (args.n - loop.t) _ _ loop.first loop.second loop.corrected _ _ c.treat_last-corrected.result
-    (omega (arith, loop.invariant.low)) (omega (arith, loop.invariant.low)) (omega (arith, loop.invariant.low)) loop.invariant c.treat_last-corrected.ensures)
+    loop.t (args.n - loop.t) _ _ loop.first loop.second loop.corrected _ _ c.treat_block-corrected-then-t-n.result
+    (omega (arith, loop.invariant.low)) (omega (arith, loop.invariant.low, c.requires.0, c.loop-t-test.false)) (omega (arith, loop.invariant.low, c.requires.2, c.loop-t-test.false)) loop.invariant c.treat_block-corrected-then-t-n.ensures)
 
 pub shape_of-first-else-t-n : goal.shape_of-first-else-t-n
 shape_of-first-else-t-n c =
