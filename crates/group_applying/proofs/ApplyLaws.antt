@@ -26,7 +26,7 @@ use Rattle.group_mates.proofs.OnceLaws.{pairs_once, pairs_half}
 use Rattle.group_verdicts.specs.Judged.{pair_at, judge_by}
 use Rattle.group_verdicts.specs.Indexed.{indexed_at}
 use Rattle.group_verdicts.proofs.IndexLaws.{passed_cleared, first_passed}
-use Rattle.group_verdicts.proofs.JudgeLaws.{pairs_turn, pairs_start, pairs_end}
+use Rattle.group_verdicts.proofs.JudgeLaws.{Entry, pairs_turn, pairs_start, pairs_end}
 use Rattle.group_applying.specs.declared.Applied.{Applied}
 use Rattle.group_applying.specs.Applied.{written, grown, overlap_count, overlaps_in, AppliedTo}
 use Rattle.group_applying.specs.Within.{start_in, end_in, call_in, Given, overlap_of, BothPut}
@@ -78,17 +78,17 @@ module _ (w : Strategies) (s₀ : List ℕ) (g₀ : CorrectionStats) (n i : ℕ)
   pub applying_alone : m ≡ 0 → Applying w s₀ g₀ n (rest s₀ n (i + 1)) s g p o
   applying_alone z = rw (pairs_turn (mates_of s₀ n) n i m below e ∙ ap (λ (x : ℕ). mate_cons i x (rest s₀ n (i + 1))) z) at a
 
-  module _ (some : m ≡ 0 → ⊥) where
+  module _ (j : ℕ) (some : Entry m j) where
     abbrev l : List (ℕ × ℕ)
     l = rest s₀ n (i + 1)
 
-    now_at : Applying w s₀ g₀ n ((i, m - 1) ∷ l) s g p o
+    now_at : Applying w s₀ g₀ n ((i, j) ∷ l) s g p o
     now_at =
-        let u : m ≡ suc (m - 1) = omega arith in
+        let u : m ≡ suc j = omega (arith, some.0, some.1) in
         rw (pairs_turn (mates_of s₀ n) n i m below e ∙ ap (λ (x : ℕ). mate_cons i x (rest s₀ n (i + 1))) u) at a
 
-    mate_below : m - 1 < n
-    mate_below = second_in n (i, m - 1) l now_at.once
+    mate_below : j < n
+    mate_below = second_in n (i, j) l now_at.once
 
     pub few_more : p < 128
     few_more = omega (arith, now_at.few)
@@ -100,25 +100,25 @@ module _ (w : Strategies) (s₀ : List ℕ) (g₀ : CorrectionStats) (n i : ℕ)
       end₁ : end_in begins i ≡ end_of s₀ i
       end₁ = at_end s₀ begins n t i below
 
-      start₂ : start_in begins (m - 1) ≡ start_of s₀ (m - 1)
-      start₂ = at_start s₀ begins n t (m - 1) mate_below
+      start₂ : start_in begins j ≡ start_of s₀ j
+      start₂ = at_start s₀ begins n t j mate_below
 
-      end₂ : end_in begins (m - 1) ≡ end_of s₀ (m - 1)
-      end₂ = at_end s₀ begins n t (m - 1) mate_below
+      end₂ : end_in begins j ≡ end_of s₀ j
+      end₂ = at_end s₀ begins n t j mate_below
 
       part₁ : part s (start_in begins i) (end_in begins i) ≡ record_of s₀ i
-      part₁ = ap₂ (part s) start₁ end₁ ∙ now_at.fresh i (first_there n (i, m - 1) l)
+      part₁ = ap₂ (part s) start₁ end₁ ∙ now_at.fresh i (first_there n (i, j) l)
 
-      part₂ : part s (start_in begins (m - 1)) (end_in begins (m - 1)) ≡ record_of s₀ (m - 1)
-      part₂ = ap₂ (part s) start₂ end₂ ∙ now_at.fresh (m - 1) (second_there n (i, m - 1) l)
+      part₂ : part s (start_in begins j) (end_in begins j) ≡ record_of s₀ j
+      part₂ = ap₂ (part s) start₂ end₂ ∙ now_at.fresh j (second_there n (i, j) l)
 
-      order₂ : start_in begins (m - 1) ≤ end_in begins (m - 1)
-      order₂ = at_order s₀ begins n t (m - 1) mate_below
+      order₂ : start_in begins j ≤ end_in begins j
+      order₂ = at_order s₀ begins n t j mate_below
 
-      inside₂ : end_in begins (m - 1) ≤ length s
-      inside₂ = omega (arith, at_in s₀ begins n t (m - 1) mate_below, a.size)
+      inside₂ : end_in begins j ≤ length s
+      inside₂ = omega (arith, at_in s₀ begins n t j mate_below, a.size)
 
-      pub given : (z : ℕ) → 65536 ≤ z → Given s z begins i (m - 1)
+      pub given : (z : ℕ) → 65536 ≤ z → Given s z begins i j
       given z h = record {
         few₁ = omega (arith, t.few);
         few₂ = omega (arith, t.few, mate_below);
@@ -128,32 +128,31 @@ module _ (w : Strategies) (s₀ : List ℕ) (g₀ : CorrectionStats) (n i : ℕ)
           order₂ = order₂;
           inside₁ = omega (arith, at_in s₀ begins n t i below, a.size);
           inside₂ = inside₂;
-          room = omega (arith, (t.sound (m - 1) mate_below).allowed, ap length part₂, length_part s (start_in begins (m - 1)) (end_in begins (m - 1)) order₂ inside₂);
+          room = omega (arith, (t.sound j mate_below).allowed, ap length part₂, length_part s (start_in begins j) (end_in begins j) order₂ inside₂);
         };
-        cleared = rw (part₁, part₂) (passed_cleared (record_of s₀ i) (record_of s₀ (m - 1)) i (m - 1) (first_passed (indexed_at s₀) (i, m - 1) l now_at.passed).0);
+        cleared = rw (part₁, part₂) (passed_cleared (record_of s₀ i) (record_of s₀ j) i j (first_passed (indexed_at s₀) (i, j) l now_at.passed).0);
       }
 
-      module _ (s' : List ℕ) (r : Met) (put : BothPut w s (start_in begins i) (end_in begins i) (start_in begins (m - 1)) (end_in begins (m - 1)) s' r) where
-        call_is : call_in w s (start_in begins i) (end_in begins i) (start_in begins (m - 1)) (end_in begins (m - 1)) ≡ pair_at w s₀ i (m - 1)
+      module _ (s' : List ℕ) (r : Met) (put : BothPut w s (start_in begins i) (end_in begins i) (start_in begins j) (end_in begins j) s' r) where
+        call_is : call_in w s (start_in begins i) (end_in begins i) (start_in begins j) (end_in begins j) ≡ pair_at w s₀ i j
         call_is = ap₂ (λ (x y : List ℕ). records_of w (state x y zeroed) 1 2) part₁ part₂
 
-        stats_is : r.stats ≡ (pair_at w s₀ i (m - 1)).after.stats
+        stats_is : r.stats ≡ (pair_at w s₀ i j).after.stats
         stats_is = put.stats ∙ ap (λ (x : Outcome). x.after.stats) call_is
 
         most : AtMost 131072 r.stats
-        most = rw stats_is (call_most w (record_of s₀ i) (record_of s₀ (m - 1)))
+        most = rw stats_is (call_most w (record_of s₀ i) (record_of s₀ j))
 
         pub adds : Adds g r.stats
         adds = room_adds g r.stats 131072 (room_less g 131072 (131072 * suc (length l)) (omega arith) now_at.room) most
 
-        bytes_is : s' ≡ stepped w s₀ s (i, m - 1)
+        bytes_is : s' ≡ stepped w s₀ s (i, j)
         bytes_is = rw (call_is, start₁, end₁, start₂, end₂) at put.bytes
 
         pub applying_next : (o' : ℕ) → o' ≡ overlap_of r.shared → (g' : CorrectionStats) → g' ≡ plus g r.stats → Applying w s₀ g₀ n l s' g' (p + 1) (o + o')
         unfolding written grown overlaps_in
         applying_next o' eo g' eg =
             let v = now_at in
-            let j = m - 1 in
             let ans : o' ≡ overlap_count (pair_at w s₀ i j).answer = eo ∙ put.overlap ∙ ap (λ (x : Outcome). overlap_count x.answer) call_is in
             let sum : g' ≡ plus g (pair_at w s₀ i j).after.stats = eg ∙ ap (plus g) stats_is in
             record {

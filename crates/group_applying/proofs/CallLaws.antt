@@ -40,7 +40,7 @@ long_judged : (w : Strategies) (y z : Layout) (s : State) (k : Judged) → Long 
 unfolding merged
 long_judged w y z s (Err (Untreateds.Refused r)) = record { first = refl; second = refl }
 long_judged w y z s (Err (Untreateds.Apart r)) = record { first = refl; second = refl }
-long_judged w y z s (Ok (p , q)) = go (lengthless p q)
+long_judged w y z s (Ok (p, q)) = go (lengthless p q)
   where
     go : (t : Bool) → Long s (on_reference w y z s p.start q.start t)
     go true = record { first = refl; second = refl }
@@ -76,7 +76,7 @@ module _ (w : Strategies) (a b : List ℕ) where
   unfolding merged
   most_judged y z h (Err (Untreateds.Refused r)) = zero_most 131072
   most_judged y z h (Err (Untreateds.Apart r)) = zero_most 131072
-  most_judged y z h (Ok (p , q)) = go (lengthless p q)
+  most_judged y z h (Ok (p, q)) = go (lengthless p q)
     where
       go : (t : Bool) → AtMost 131072 (on_reference w y z s p.start q.start t).after.stats
       go true = zero_most 131072

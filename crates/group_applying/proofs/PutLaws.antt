@@ -31,6 +31,10 @@ pub some_overlap : (n : ℕ) → (n ≡ 0 → ⊥) → 1 ≡ overlap_of n
 some_overlap zero h = absurd (h refl)
 some_overlap (suc n) h = refl
 
+pub overlap_small : (n : ℕ) → overlap_of n ≤ 1
+overlap_small zero = omega arith
+overlap_small (suc n) = omega arith
+
 -- the front of the room is as long as the second part
 pub room_long : (s room : List ℕ) (a e b h : ℕ) → Within s (length room) a e b h → length (part room 0 (h - b)) ≡ length (part s b h)
 room_long s room a e b h k =

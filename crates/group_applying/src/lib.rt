@@ -1,8 +1,9 @@
 // The pairs of a group, all of them judged, corrected where they stand as the pair call corrects them.
 #![tactic(auto)]
 
-ghost use Rattle.std.specs.Prelude.{◌≡◌, ◌*◌, ◌≤◌, length};
-ghost use Rattle.stats.specs.Room.{Room};
+ghost use Rattle.std.specs.Prelude.{◌≡◌, ◌+◌, ◌*◌, ◌<◌, ◌≤◌, length};
+ghost use Rattle.stats.specs.Counts.{plus};
+ghost use Rattle.stats.specs.Room.{Adds, Room};
 ghost use Rattle.pair_judgement.specs.Ready.{Cleared};
 ghost use Rattle.group_frames.specs.Part.{part};
 ghost use Rattle.group_frames.specs.Table.{FrameTable};
@@ -25,39 +26,64 @@ pub struct Applied {
     pub stats: CorrectionStats,
 }
 
-// How much a pair that shares so many positions adds to the number of overlapping ones.
-fn overlap_of(shared: usize) -> usize
-    ensures { (result ≡ overlap_of shared) × (result ≤ 1) }
-{
-    if shared == 0 {
-        return 0;
+impl Applied {
+    // What one pair adds that was treated with counts from 0.
+    pub fn of_pair(met: Met) -> Applied
+        ensures { (result.pairs ≡ 1) × (result.overlapping ≡ overlap_of met.shared) × (result.stats ≡ met.stats) }
+    {
+        Applied {
+            pairs: 1,
+            overlapping: usize::from(met.shared != 0),
+            stats: met.stats,
+        }
     }
-    1
+
+    // What these pairs and more give together.
+    pub fn plus(self, more: Applied) -> Applied
+        requires { (self.pairs + more.pairs < 18446744073709551616) × (self.overlapping + more.overlapping < 18446744073709551616) × Adds self.stats more.stats }
+        ensures { (result.pairs ≡ self.pairs + more.pairs) × (result.overlapping ≡ self.overlapping + more.overlapping) × (result.stats ≡ plus self.stats more.stats) }
+    {
+        Applied {
+            pairs: self.pairs + more.pairs,
+            overlapping: self.overlapping + more.overlapping,
+            stats: self.stats.plus(more.stats),
+        }
+    }
+}
+
+// Where a record lies in its group.
+#[derive(Clone, Copy)]
+struct Place {
+    start: usize,
+    end: usize,
+}
+
+// Where record k lies, by the table of frames.
+fn place_of(begins: &[usize], k: usize) -> Place
+    requires { (k + 1 < length begins.now) × (start_in begins.now k ≤ end_in begins.now k) }
+    ensures { (result.start ≡ start_in begins.now k) × (result.end ≡ end_in begins.now k) }
+{
+    Place {
+        start: begins[k] + 4,
+        end: begins[k + 1],
+    }
 }
 
 // Two parts of a list that were judged as a pair, corrected with counts from 0. The second is copied
 // out for it, and back.
-fn apply_parts(
-    buf: &mut [u8],
-    room: &mut [u8],
-    start: usize,
-    end: usize,
-    from: usize,
-    to: usize,
-    w: Strategies,
-) -> Met
-    requires { Within buf.old (length room.old) start end from to × Cleared (part buf.old start end) (part buf.old from to) }
-    ensures { BothPut w buf.old start end from to buf.new result }
+fn apply_parts(buf: &mut [u8], room: &mut [u8], a: Place, b: Place, w: Strategies) -> Met
+    requires { Within buf.old (length room.old) a.start a.end b.start b.end × Cleared (part buf.old a.start a.end) (part buf.old b.start b.end) }
+    ensures { BothPut w buf.old a.start a.end b.start b.end buf.new result }
 {
-    let n = to - from;
-    room[0..n].copy_from_slice(&buf[from..to]);
+    let n = b.end - b.start;
+    room[0..n].copy_from_slice(&buf[b.start..b.end]);
     let met = pair_judgement::treat_judged(
         w,
-        &mut buf[start..end],
+        &mut buf[a.start..a.end],
         &mut room[0..n],
         CorrectionStats::new(),
     );
-    buf[from..to].copy_from_slice(&room[0..n]);
+    buf[b.start..b.end].copy_from_slice(&room[0..n]);
     met
 }
 
@@ -73,15 +99,12 @@ fn apply_pair(
     requires { Given buf.old (length room.old) begins.now i j }
     ensures { BothPut w buf.old (start_in begins.now i) (end_in begins.now i) (start_in begins.now j) (end_in begins.now j) buf.new result }
 {
-    let start = begins[i] + 4;
-    let end = begins[i + 1];
-    let mate_start = begins[j] + 4;
-    let mate_end = begins[j + 1];
-    apply_parts(buf, room, start, end, mate_start, mate_end, w)
+    apply_parts(buf, room, place_of(begins, i), place_of(begins, j), w)
 }
 
 // Every pair of a group corrected, in order of the first's index; all were judged, and none refused.
 // `room` takes one record at a time.
+// Kept: the table and the count come beside `buf` and not in a `Frames`, which lends the bytes to read.
 pub fn apply_all(
     buf: &mut [u8],
     room: &mut [u8],
@@ -94,26 +117,16 @@ pub fn apply_all(
     requires { FrameTable buf.old begins.now n × Mated buf.old mate.now n × (65536 ≤ length room.old) × Room stats (128 * 131072) × (judge_by (indexed_at buf.old) (pairs_of buf.old n) ≡ Ok tt) }
     ensures { AppliedTo w buf.old (pairs_of buf.old n) stats buf.new result }
 {
-    let mut pairs: usize = 0;
-    let mut overlapping: usize = 0;
-    let mut sum = stats;
-    let mut i: usize = 0;
-    while i < n {
-        let m = mate[i];
-        if m == 0 {
-            i += 1;
-        } else {
-            let met = apply_pair(buf, room, begins, i, m - 1, w);
-            let growth = met.stats;
-            pairs += 1;
-            overlapping += overlap_of(met.shared);
-            sum = sum.plus(growth);
-            i += 1;
+    let mut sum = Applied {
+        pairs: 0,
+        overlapping: 0,
+        stats,
+    };
+    for i in 0..n {
+        if let Some(j) = mate[i].checked_sub(1) {
+            let met = apply_pair(buf, room, begins, i, j, w);
+            sum = sum.plus(Applied::of_pair(met));
         }
     }
-    Applied {
-        pairs,
-        overlapping,
-        stats: sum,
-    }
+    sum
 }
