@@ -31,11 +31,6 @@ counts_after (Answers.Refused r) c g = c
 abbrev pub called : List ℕ → Outcome → Returned
 called c o = returned (answer_code o.answer) o.after.first o.after.second (counts_after o.answer c o.after.stats)
 
--- the answer for numbers that are refused
-abbrev pub numbered_code : Result Strategies Refusal → ℕ
-numbered_code (Ok w) = 1
-numbered_code (Err r) = code_of r
-
 abbrev pub with_numbers : List ℕ → List ℕ → List ℕ → Result Strategies Refusal → Returned
 with_numbers a b c (Ok w) = called c (pair_of w (state a b (counts_at c 0)))
 with_numbers a b c (Err r) = returned (code_of r) a b c
