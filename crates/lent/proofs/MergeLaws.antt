@@ -7,8 +7,7 @@ use mathlib.Core.Logic.{◌↔◌}
 use Rattle.refusal.specs.declared.Refusal.TheVariants.{Sum}
 use Rattle.stats.specs.declared.CorrectionStats.{CorrectionStats}
 use Rattle.stats.specs.Counts.{plus, above}
-use Rattle.lent.specs.declared.MergeCalled.{MergeCalled}
-use Rattle.lent.specs.Lent.{merge_numbers, on_merged, merge_of}
+use Rattle.lent.specs.Lent.{MergeCalled, merge_numbers, on_merged, merge_of}
 
 -- the merge of h into g; a sum is above 2 ^ 64 - 1 where `above` says so (`stats` has which: `above_some`)
 module _ (g h : CorrectionStats) where

@@ -13,37 +13,13 @@ use refusal::Refusal;
 use stats::CorrectionStats;
 use strategy::Strategies;
 
-// The answer, and the counts after the merge.
-#[derive(Clone, Copy)]
-pub struct MergeCalled {
-    pub answer: Result<(), Refusal>,
-    pub stats: CorrectionStats,
-}
-
-// Two statistics as one, or the first of them as it was.
-pub fn merge_kept(stats: CorrectionStats, other: CorrectionStats) -> MergeCalled
-    ensures { result ≡ merge_of stats other }
-{
-    let merged = stats.merge(other);
-    match merged {
-        Ok(sums) => MergeCalled {
-            answer: Ok(()),
-            stats: sums,
-        },
-        Err(r) => MergeCalled {
-            answer: Err(r),
-            stats,
-        },
-    }
-}
-
 // Corrects two records where they stand, and adds to the lent counts where they stand. Refused, or
 // without an overlap, both records and the counts are as they came.
-pub fn call_lent<'a, 'b, 's>(
-    first: &'a mut [u8],
-    second: &'b mut [u8],
+pub fn call_lent(
+    first: &mut [u8],
+    second: &mut [u8],
     w: Strategies,
-    stats: &'s mut CorrectionStats,
+    stats: &mut CorrectionStats,
 ) -> Answer
     ensures { outcome result (state first.new second.new stats.new) ≡ pair_of w (state first.old second.old stats.old) }
 {
@@ -53,7 +29,7 @@ pub fn call_lent<'a, 'b, 's>(
 }
 
 // The same with counts that begin at zero and are given back, for a caller that lends none.
-pub fn call_anew<'a, 'b>(first: &'a mut [u8], second: &'b mut [u8], w: Strategies) -> Called
+pub fn call_anew(first: &mut [u8], second: &mut [u8], w: Strategies) -> Called
     ensures { outcome result.answer (state first.new second.new result.stats) ≡ pair_of w (state first.old second.old zeroed) }
 {
     let mut stats = CorrectionStats::new();
@@ -72,7 +48,6 @@ pub fn reset_lent(stats: &mut CorrectionStats)
 pub fn merge_lent(stats: &mut CorrectionStats, other: CorrectionStats) -> Result<(), Refusal>
     ensures { merge_called result stats.new ≡ merge_of stats.old other }
 {
-    let called = merge_kept(*stats, other);
-    *stats = called.stats;
-    called.answer
+    *stats = stats.merge(other)?;
+    Ok(())
 }

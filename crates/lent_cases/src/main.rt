@@ -7,9 +7,8 @@ ghost use Rattle.std.specs.Prelude.{◌≡◌, ◌≤◌, length};
 ghost use Rattle.stats.specs.Counts.{zeroed};
 ghost use Rattle.positions.specs.Step.{state};
 ghost use Rattle.pair.specs.Pair.{outcome, pair_of};
-ghost use Rattle.lent.specs.Lent.{merge_of};
+ghost use Rattle.lent.specs.Lent.{merge_called, merge_of};
 
-use lent::MergeCalled;
 use pair::{Answer, Called};
 use refusal::Refusal;
 use stats::CorrectionStats;
@@ -47,15 +46,15 @@ fn call_on<'a, 'b>(
 }
 
 // The merge, with the counts lent to it where they stand.
-fn merge_on(stats: CorrectionStats, other: CorrectionStats) -> MergeCalled
-    ensures { result ≡ merge_of stats other }
+fn merge_on(
+    stats: CorrectionStats,
+    other: CorrectionStats,
+) -> (Result<(), Refusal>, CorrectionStats)
+    ensures { merge_called result.0 result.1 ≡ merge_of stats other }
 {
     let mut counts = stats;
     let answer = lent::merge_lent(&mut counts, other);
-    MergeCalled {
-        answer,
-        stats: counts,
-    }
+    (answer, counts)
 }
 
 // The reset, with the counts lent to it where they stand.
@@ -403,13 +402,11 @@ fn reset(stats: CorrectionStats) {
 fn merge(stats: CorrectionStats, other: CorrectionStats) {
     say_counts(b"merge", stats);
     say_counts(b" and", other);
-    let called = merge_on(stats, other);
-    let answer = called.answer;
+    let (answer, after) = merge_on(stats, other);
     match answer {
         Ok(()) => say(b": added"),
         Err(r) => say_refusal(r),
     }
-    let after = called.stats;
     say_counts(b", counts", after);
     say(b"\n");
 }
