@@ -21,7 +21,7 @@ use Rattle.group.specs.Promise.{FirstRefused}
 
 -- ---- all pairs pass
 -- a refusal isn't a pass
-no_refusal : (r : Refusal) → Err r ≡ Ok tt → ⊥
+no_refusal : (r : Refusal) → ◌≡◌ {A = Result (Unit {0}) Refusal} (Err r) (Ok tt) → ⊥
 no_refusal r e = let z : ◌≡◌ {A = ℕ} 0 1 = cc in omega arith
 
 -- where all pass, each pair of the list does

@@ -26,6 +26,10 @@ use Rattle.group.specs.Group.{ended, on_pairs, on_frames, framed_of, on_numbered
 pub filled : (s begins : List ℕ) (n : ℕ) (f : Result ℕ Refusal) → f ≡ Ok n → Filled s begins f → FrameTable s begins n
 filled s begins n f e t = subst (Filled s begins) e t
 
+-- a refusal, with the counts as they came
+abbrev pub as_they_came : Refusal → CorrectionStats → Grouped
+as_they_came r g = record { answer = Refused r; stats = g }
+
 -- a refusal that the code gives
 refusal : (s : List ℕ) (g : CorrectionStats) (r : Refusal) (o : Grouped) → (o.answer ≡ Refused r) × (o.stats ≡ g) → ended o.answer s o.stats ≡ ended (Refused r) s g
 refusal s g r o h = ap₂ (λ (a : GroupAnswer) (x : CorrectionStats). ended a s x) h.0 h.1
@@ -66,5 +70,8 @@ module _ (m k cap : ℕ) (s : List ℕ) (g : CorrectionStats) (a : Result Strate
     pub too_full : full g ≡ true → (o : Grouped) → (o.answer ≡ Refused Count) × (o.stats ≡ g) → ended o.answer s o.stats ≡ group_of m k cap s g
     too_full t o h = refusal s g Count o h ∙ (rw t at chosen)
 
+    pub passes : full g ≡ false → framed_of w s g ≡ group_of m k cap s g
+    passes t = rw t at chosen
+
     pub goes_on : full g ≡ false → (u : List ℕ) (o : Grouped) → ended o.answer u o.stats ≡ framed_of w s g → ended o.answer u o.stats ≡ group_of m k cap s g
-    goes_on t u o h = h ∙ (rw t at chosen)
+    goes_on t u o h = h ∙ passes t

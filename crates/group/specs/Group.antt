@@ -10,6 +10,7 @@ use Rattle.strategy.specs.Number.{numbered_of}
 use Rattle.group_frames.specs.Frame.{frames_of}
 use Rattle.group_mates.specs.Register.{pairs_of}
 use Rattle.group_verdicts.specs.Judged.{verdict_at, judge_by}
+use Rattle.group_applying.specs.declared.Applied.{Applied}
 use Rattle.group_applying.specs.Applied.{written, grown, overlaps_in}
 use Rattle.group.specs.declared.GroupAnswer.{GroupAnswer}
 use Rattle.group.specs.declared.GroupAnswer.TheVariants.{Done, Refused}
@@ -27,6 +28,11 @@ pub record Ended : Type 0 where
 
 abbrev pub ended : GroupAnswer → List ℕ → CorrectionStats → Ended
 ended a s g = record { answer = a; bytes = s; stats = g }
+
+-- what a call gives that corrected so many records with these numbers of pairs; or that is refused
+abbrev pub ended_by : Result (ℕ × Applied) Refusal → List ℕ → CorrectionStats → Ended
+ended_by (Ok d) s g = ended (Done d.0 d.1.pairs d.1.overlapping) s d.1.stats
+ended_by (Err r) s g = ended (Refused r) s g
 
 -- a refusal leaves the group s and the counts g as they came; else each pair holds what the pair call gives
 abbrev pub on_pairs : Strategies → List ℕ → CorrectionStats → ℕ → Result (Unit {0}) Refusal → Ended

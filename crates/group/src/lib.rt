@@ -3,10 +3,10 @@
 
 ghost use Rattle.std.specs.Prelude.{◌≡◌, false};
 ghost use Rattle.stats.specs.Counts.{full};
-ghost use Rattle.group_frames.specs.Frame.{frames_of};
-ghost use Rattle.group_frames.specs.Table.{FrameTable};
-ghost use Rattle.group.specs.Group.{ended, framed_of, group_of};
+ghost use Rattle.group.specs.Group.{ended, ended_by, framed_of, group_of};
 
+use group_applying::Applied;
+use group_frames::Frames;
 use refusal::Refusal;
 use stats::CorrectionStats;
 use strategy::Strategies;
@@ -24,70 +24,54 @@ pub enum GroupAnswer {
 }
 
 // The answer, and the counts after the call.
+// Kept: the refusal inside the answer and the counts by value beside it are the form that the interface is
+// agreed in, for this call as for the pair call.
 #[derive(Clone, Copy)]
 pub struct Grouped {
     pub answer: GroupAnswer,
     pub stats: CorrectionStats,
 }
 
-// A refusal, with the counts as they came.
-fn refused(r: Refusal, stats: CorrectionStats) -> Grouped
-    ensures { (result.answer ≡ GroupAnswer.Refused r) × (result.stats ≡ stats) }
-{
-    Grouped {
-        answer: GroupAnswer::Refused(r),
-        stats,
-    }
-}
-
-// The pairs of a group of n records: all are judged before any is written.
-fn group_pairs(
-    buf: &mut [u8],
-    room: &mut [u8; 65536],
-    begins: &[usize],
-    n: usize,
-    w: Strategies,
-    stats: CorrectionStats,
-) -> Grouped
-    requires { FrameTable buf.old begins.now n × (frames_of buf.old ≡ Ok n) × (full stats ≡ false) }
-    ensures { ended result.answer buf.new result.stats ≡ framed_of w buf.old stats }
-{
-    let mut mate = [1usize; 256];
-    group_mates::find(buf, begins, n, &mut mate);
-    let v = group_verdicts::judge_all(buf, begins, n, &mate);
-    match v {
-        Err(r) => refused(r, stats),
-        Ok(()) => {
-            let applied = group_applying::apply_all(buf, room, begins, n, &mate, w, stats);
-            let after = applied.stats;
-            Grouped {
-                answer: GroupAnswer::Done {
-                    records: n,
-                    pairs: applied.pairs,
-                    overlapping: applied.overlapping,
-                },
-                stats: after,
-            }
-        }
-    }
-}
-
-// The frames of a group, then its pairs.
+// The pairs of a group that is cut into its frames, corrected once all of them are judged: how many records
+// there are, and what their pairs give.
 fn group_framed(
     buf: &mut [u8],
-    room: &mut [u8; 65536],
     w: Strategies,
     stats: CorrectionStats,
-) -> Grouped
+) -> Result<(usize, Applied), Refusal>
     requires { full stats ≡ false }
-    ensures { ended result.answer buf.new result.stats ≡ framed_of w buf.old stats }
+    ensures { ended_by result buf.new stats ≡ framed_of w buf.old stats }
 {
     let mut begins = [1usize; 257];
-    let f = group_frames::cut(buf, &mut begins);
-    match f {
-        Err(r) => refused(r, stats),
-        Ok(n) => group_pairs(buf, room, &begins, n, w, stats),
+    let count = group_frames::cut(buf, &mut begins)?;
+    let frames = Frames {
+        bytes: buf,
+        begins: &begins,
+        count,
+    };
+    let mut mate = [1usize; 256];
+    group_mates::find(frames, &mut mate);
+    group_verdicts::judge_all(frames, &mate)?;
+    let mut room = [0u8; 65536];
+    let applied = group_applying::apply_all(buf, &mut room, &begins, count, &mate, w, stats);
+    Ok((count, applied))
+}
+
+// The group corrected by the strategies and the cap of these numbers, or why it is refused.
+fn group_numbered(
+    buf: &mut [u8],
+    agreement: u32,
+    disagreement: u32,
+    cap: u32,
+    stats: CorrectionStats,
+) -> Result<(usize, Applied), Refusal>
+    ensures { ended_by result buf.new stats ≡ group_of agreement disagreement cap buf.old stats }
+{
+    let w = strategy::by_number(agreement, disagreement, cap)?;
+    if stats.full() {
+        return Err(Refusal::Count);
     }
+    group_framed(buf, w, stats)
 }
 
 // Corrects the overlapping pairs of a group of framed records where they stand, by the strategies and the
@@ -101,15 +85,18 @@ pub fn group(
 ) -> Grouped
     ensures { ended result.answer buf.new result.stats ≡ group_of agreement disagreement cap buf.old stats }
 {
-    let mut room = [0u8; 65536];
-    let numbered = strategy::by_number(agreement, disagreement, cap);
-    match numbered {
-        Err(r) => refused(r, stats),
-        Ok(w) => {
-            if stats.full() {
-                return refused(Refusal::Count, stats);
-            }
-            group_framed(buf, &mut room, w, stats)
-        }
+    match group_numbered(buf, agreement, disagreement, cap, stats) {
+        Ok((records, applied)) => Grouped {
+            answer: GroupAnswer::Done {
+                records,
+                pairs: applied.pairs,
+                overlapping: applied.overlapping,
+            },
+            stats: applied.stats,
+        },
+        Err(r) => Grouped {
+            answer: GroupAnswer::Refused(r),
+            stats,
+        },
     }
 }
