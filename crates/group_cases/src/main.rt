@@ -47,8 +47,8 @@ fn run_case(head: &mut [u8], input: &mut [u8], expected: &mut [u8], out: &mut [u
     let written = line_overlap::overlap(input, n, out);
     io::write_all(1, line_text::part(head, 0, 32));
     tell(as_expected(
-        line_overlap::line_of(out, written.line),
-        line_text::part(input, 2, written.group),
+        written.line_in(out),
+        written.group_in(input, 2),
         expected,
         m,
     ));

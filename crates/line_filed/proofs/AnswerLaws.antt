@@ -21,18 +21,18 @@ use Rattle.line_filed.specs.FiledLine.{output_by, output_of, filed_line_of}
 use Rattle.line_filed.specs.Told.{Told}
 
 -- ---- 14: nothing is called
-pub too_long : (s filed out out' : List ℕ) (r : ℕ) → 65536 < length s → Put out 0 (refusal_text Input) out' r × (r ≤ 256) → Told s filed filed out out' r 0
+pub too_long : (s filed out out' : List ℕ) (r group : ℕ) → 65536 < length s → Put out 0 (refusal_text Input) out' r × (r ≤ 256) × (group ≡ 0) → Told s filed filed out out' r group
 unfolding filed_line_of
-too_long s filed out out' r h (p, l) =
+too_long s filed out out' r group h (p, l, z) =
     let e : alone (refusal_text Input) ≡ filed_line_of s = rw (lt-ltb 65536 (length s) h) refl in
-    record {
+    rw z (record {
       said = p.bytes ∙ ap (λ (o : Output). o.line) e;
       given = ap (λ (o : Output). o.group) e;
       room = l;
       rest = p.rest;
       inside = omega arith;
       behind = refl;
-    }
+    })
 
 -- ---- the call was made: the line of its answer, and how many bytes of the room it says to be the group
 abbrev line_by : FiledAnswer → List ℕ
@@ -72,17 +72,17 @@ shown s filed x y (refused r ex ey) = rw (ex, ey) (record { line = refl; front =
 
 -- whatever the call answers, where it left u in the room
 pub answered : (s filed : List ℕ) → length s ≤ 65536 → 65536 ≤ length filed → (z : CorrectionStats) → z ≡ zeroed → (f : Filed) (u : List ℕ) → ended f.answer u f.stats ≡ filed_of s filed z
-    → (a : FiledAnswer) → f.answer ≡ a → (out out' : List ℕ) (n : ℕ) → Put out 0 (line_by a) out' n × (n ≤ 256) → Told s filed u out out' n (size_by a (length s))
+    → (a : FiledAnswer) → f.answer ≡ a → (out out' : List ℕ) (n group : ℕ) → Put out 0 (line_by a) out' n × (n ≤ 256) × (group ≡ size_by a (length s)) → Told s filed u out out' n group
 unfolding filed_line_of
-answered s filed fits wide z ez f u e a ea out out' n (p, l) =
+answered s filed fits wide z ez f u e a ea out out' n group (p, l, is) =
     let whole : filed_of s filed zeroed ≡ ended a u f.stats = ap (filed_of s filed) (sym ez) ∙ sym e ∙ ap (λ (x : FiledAnswer). ended x u f.stats) ea in
     let opened : output_of (filed_of s s zeroed) ≡ filed_line_of s = rw (le-ltb 65536 (length s) fits) refl in
     let w : Shown s filed (ended a u f.stats) (filed_of s s zeroed) = rw whole at (shown s filed (filed_of s filed zeroed) (filed_of s s zeroed) (outcome s filed zeroed (omega arith))) in
-    record {
+    rw is (record {
       said = p.bytes ∙ w.line ∙ ap (λ (o : Output). o.line) opened;
       given = w.front ∙ ap (λ (o : Output). o.group) opened;
       room = l;
       rest = p.rest;
       inside = omega (arith, size_most a (length s));
       behind = w.behind;
-    }
+    })

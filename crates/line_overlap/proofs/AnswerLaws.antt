@@ -1,5 +1,7 @@
 -- The whole answer, by the stages of the code.
 use Prim.Native.Nat.{ℕ, ◌+◌, ◌-◌, ◌<◌, ◌≤◌}
+use Rattle.std.specs.Prelude.{min}
+use Rattle.std.proofs.lemmas.List.{take_min}
 use mathlib.Core.Path.{◌≡◌, refl, sym, ap, ◌∙◌}
 use mathlib.Core.List.{List, ◌++◌}
 use mathlib.Core.Option.{Option, none, some}
@@ -30,20 +32,21 @@ use Rattle.line_overlap.specs.Overlap.{number_at, output_by, output_of, overlap_
 use Rattle.line_overlap.specs.Told.{Told}
 
 -- ---- a line and no group: the input is as it came
-told_line : (s out out' t : List ℕ) (r : ℕ) → alone t ≡ overlap_of s → Put out 0 t out' r → r ≤ 256 → Told s s s out out' r 0
-told_line s out out' t r e p h = record {
-  said = p.bytes ∙ ap (λ (o : Output). o.line) e;
-  given = ap (λ (o : Output). o.group) e;
-  room = h;
-  rest = p.rest;
-  inside = omega arith;
-  digits = refl;
-  behind = refl;
-}
+told_line : (s out out' t : List ℕ) (r group : ℕ) → alone t ≡ overlap_of s → Put out 0 t out' r × (r ≤ 256) × (group ≡ 0) → Told s s s out out' r group
+told_line s out out' t r group e (p, h, z) =
+    rw z (record {
+      said = p.bytes ∙ ap (λ (o : Output). o.line) e;
+      given = ap (λ (o : Output). o.group) e;
+      room = h;
+      rest = p.rest;
+      inside = omega arith;
+      digits = refl;
+      behind = refl;
+    })
 
-pub too_long : (s out out' : List ℕ) (r : ℕ) → 65536 < length s → Put out 0 (refusal_text Input) out' r → r ≤ 256 → Told s s s out out' r 0
+pub too_long : (s out out' : List ℕ) (r group : ℕ) → 65536 < length s → Put out 0 (refusal_text Input) out' r × (r ≤ 256) × (group ≡ 0) → Told s s s out out' r group
 unfolding overlap_of
-too_long s out out' r h p l = told_line s out out' (refusal_text Input) r (rw (lt-ltb 65536 (length s) h)) p l
+too_long s out out' r group h p = told_line s out out' (refusal_text Input) r group (rw (lt-ltb 65536 (length s) h)) p
 
 module _ (s : List ℕ) (fits : length s ≤ 65536) where
   opened : overlap_of s ≡ output_of (group_of (number_at s 0) (number_at s 1) 93 (drop 2 s) zeroed)
@@ -60,8 +63,8 @@ module _ (s : List ℕ) (fits : length s ≤ 65536) where
       go none = refl
       go (some m) = refl
 
-  pub no_digits : (out out' : List ℕ) (r : ℕ) → length s < 2 → Put out 0 (refusal_text Strategy) out' r → r ≤ 256 → Told s s s out out' r 0
-  no_digits out out' r h p l = told_line s out out' (refusal_text Strategy) r (no_digits_text h) p l
+  pub no_digits : (out out' : List ℕ) (r group : ℕ) → length s < 2 → Put out 0 (refusal_text Strategy) out' r × (r ≤ 256) × (group ≡ 0) → Told s s s out out' r group
+  no_digits out out' r group h p = told_line s out out' (refusal_text Strategy) r group (no_digits_text h) p
 
   -- ---- the group was called, on the bytes from 2 on
   module _ (m k : ℕ) (em : m ≡ number_at s 0) (ek : k ≡ number_at s 1) (two : 2 ≤ length s) (z : CorrectionStats) (ez : z ≡ zeroed) (g : Grouped) (u : List ℕ)
@@ -79,11 +82,11 @@ module _ (s : List ℕ) (fits : length s ≤ 65536) where
         let w : u ≡ part s 2 (length s) = (refused_keeps m k 93 (part s 2 (length s)) z r u g.stats (sym eg ∙ ap (λ (x : GroupAnswer). ended x u g.stats) (ea ∙ e))).0 in
         ap (splice s 2 (length s)) w ∙ ap (λ (x : List ℕ). take 2 s ++ x) (take-append-drop (length s - 2) (drop 2 s)) ∙ take-append-drop 2 s
 
-    pub refused_group : (r : Refusal) → a ≡ Refused r → (out out' : List ℕ) (n : ℕ) → Put out 0 (refusal_text r) out' n → n ≤ 256
-        → Told s s (splice s 2 (length s) u) out out' n 0
-    refused_group r e out out' n p l =
+    pub refused_group : (r : Refusal) → a ≡ Refused r → (out out' : List ℕ) (n group : ℕ) → Put out 0 (refusal_text r) out' n × (n ≤ 256) × (group ≡ 0)
+        → Told s s (splice s 2 (length s) u) out out' n group
+    refused_group r e out out' n group p =
         let t : alone (refusal_text r) ≡ overlap_of s = sym (ap (λ (x : GroupAnswer). output_by x (ended x u g.stats)) e) ∙ told in
-        rw (kept r e) (told_line s out out' (refusal_text r) n t p l)
+        rw (kept r e) (told_line s out out' (refusal_text r) n group t p)
 
     pub done_group : (x y v : ℕ) → a ≡ Done x y v → (out out' : List ℕ) (n : ℕ) → Put out 0 (done_text x y v g.stats) out' n → n ≤ 256
         → Told s s (splice s 2 (length s) u) out out' n (length s - 2)
@@ -138,9 +141,9 @@ module _ (s t x : List ℕ) (h : length x ≡ length s) where
     behind = drop_both (2 + group) p.behind;
   }
 
-pub front_told : (n : ℕ) (input x out out' : List ℕ) (line group : ℕ) → length x ≡ length (take (n - 0) input) → Told (take (n - 0) input) (take (n - 0) input) x out out' line group
-    → Told (take n input) input (splice input 0 n x) out out' line group
-front_told n input x out out' line group h p =
-    let z : n - 0 ≡ n = omega arith in
-    let q = widened (take (n - 0) input) (drop (n - 0) input) x h out out' line group p in
-    rw z (rw z at (rw take-append-drop at q))
+pub front_told : (n k : ℕ) (input x out out' : List ℕ) (line group : ℕ) → k ≡ min n (length input) → length x ≡ length (take k input)
+    → Told (take k input) (take k input) x out out' line group → Told (take n input) input (x ++ drop k input) out out' line group
+front_told n k input x out out' line group e h p =
+    let q = widened (take k input) (drop k input) x h out out' line group p in
+    let z : take k input ≡ take n input = ap (λ (i : ℕ). take i input) e ∙ take_min n input in
+    rw z at (rw take-append-drop at q)

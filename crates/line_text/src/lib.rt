@@ -1,5 +1,5 @@
-// Texts in a lent room: numbers, the four counts and the lines of an answer, put one behind the other,
-// and parts of a room.
+// Texts in a lent room: numbers and the lines of an answer, put one behind the other, parts of a room,
+// and how many bytes of its rooms a program writes.
 #![tactic(auto)]
 
 ghost use Rattle.std.specs.Prelude.{◌≡◌, ◌+◌, ◌*◌, ◌≤◌, [], ◌∷◌, ◌++◌, length, take, drop};
@@ -105,4 +105,39 @@ pub fn part(s: &[u8], start: usize, n: usize) -> &[u8]
 {
     let rest = &s[start.min(s.len())..];
     &rest[..n.min(rest.len())]
+}
+
+// How many bytes a program reads at most.
+pub const MOST: usize = 65536;
+
+// What a program writes: so many bytes of the room for the line, then so many of the room for the group.
+#[derive(Clone, Copy)]
+pub struct Written {
+    pub line: usize,
+    pub group: usize,
+}
+
+impl Written {
+    // The line of a refusal, at the start of `out`, and no group.
+    pub fn refused(out: &mut [u8], r: Refusal) -> Written
+        requires { 256 ≤ length out.old }
+        ensures { Put out.old 0 (refusal_text r) out.new result.line × (result.line ≤ 256) × (result.group ≡ 0) }
+    {
+        let line = put_refusal(out, r);
+        Written { line, group: 0 }
+    }
+
+    // The line in its room.
+    pub fn line_in(self, out: &[u8; 256]) -> &[u8]
+        ensures { result.now ≡ take self.line out.now }
+    {
+        part(out, 0, self.line)
+    }
+
+    // The group in its room, where it stands from byte `start` on.
+    pub fn group_in(self, room: &[u8], start: usize) -> &[u8]
+        ensures { result.now ≡ take self.group (drop start room.now) }
+    {
+        part(room, start, self.group)
+    }
 }

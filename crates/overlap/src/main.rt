@@ -17,8 +17,8 @@ fn run(rt: &HostRuntime) -> Result<(), Failure> {
     ))?;
     let mut out = [0u8; 256];
     let written = line_overlap::overlap(&mut input, n, &mut out);
-    let line = line_overlap::line_of(&out, written.line);
-    let group = line_text::part(&input, 2, written.group);
+    let line = written.line_in(&out);
+    let group = written.group_in(&input, 2);
     console::write_both(&mut rt.stdout(), line, group).map_err(|why| (
         b"overlap: standard output can't be written".as_slice(),
         why,

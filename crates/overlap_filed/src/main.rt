@@ -18,8 +18,8 @@ fn run(rt: &HostRuntime) -> Result<(), Failure> {
     let mut filed = [0u8; 65536];
     let mut out = [0u8; 256];
     let written = line_filed::overlap_filed(&input, n, &mut filed, &mut out);
-    let line = line_filed::line_of(&out, written.line);
-    let group = line_filed::group_of(&filed, written.group);
+    let line = written.line_in(&out);
+    let group = written.group_in(&filed, 0);
     console::write_both(&mut rt.stdout(), line, group).map_err(|why| (
         b"overlap_filed: standard output can't be written".as_slice(),
         why,

@@ -2,4 +2,4 @@
 use Rattle.line_filed.proofs.overlap_filed.Goals as goal
 
 pub returns : goal.returns
-returns c = rw c.part-s.ensures at c.answer.ensures
+returns c = rw c.part.ensures at c.answer.ensures
