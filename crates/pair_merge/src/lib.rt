@@ -2,13 +2,13 @@
 // run of positions at which both records have a base.
 #![tactic(auto)]
 
-ghost use Rattle.std.specs.Prelude.{◌≡◌, ◌*◌, min, ltb, length};
+ghost use Rattle.std.specs.Prelude.{◌≡◌, ◌*◌, ltb, length};
 ghost use Rattle.fields.specs.Sound.{Lies};
 ghost use Rattle.stats.specs.Room.{Room};
 ghost use Rattle.positions.specs.Step.{state};
 ghost use Rattle.pair_merge.specs.Shared.{shared, merged, Walked};
 
-use fields::{Layout, ReadOffset, RefPos};
+use fields::{Layout, RefPos};
 use positions::Job;
 use stats::CorrectionStats;
 
@@ -17,12 +17,6 @@ use stats::CorrectionStats;
 pub struct Met {
     pub shared: usize,
     pub stats: CorrectionStats,
-}
-
-fn smaller(a: usize, b: usize) -> usize
-    ensures { result ≡ min a b }
-{
-    if a < b { a } else { b }
 }
 
 // All shared positions of two records whose alignments start at the positions p and q, treated.
@@ -38,14 +32,10 @@ pub fn merge(
     ensures treated { state first.new second.new result.stats ≡ merged w p q (state first.old second.old g) }
     ensures counted { result.shared ≡ length (shared w.first w.second p q first.old second.old) }
 {
-    let y = w.first;
-    let z = w.second;
-    let ye = y.bases;
-    let ze = z.bases;
-    let from1 = p.0;
-    let from2 = q.0;
-    let mut a = cigar::begin(first, y, RefPos(from1));
-    let mut b = cigar::begin(second, z, RefPos(from2));
+    let end1 = w.first.bases;
+    let end2 = w.second.bases;
+    let mut a = cigar::begin(first, w.first, p);
+    let mut b = cigar::begin(second, w.second, q);
     let mut met = 0;
     let mut h = g;
     while a.left != 0 {
@@ -56,25 +46,15 @@ pub fn merge(
             };
         }
         if a.position.0 < b.position.0 {
-            a = cigar::pass(first, ye, a, smaller(a.left, b.position.0 - a.position.0));
+            a = cigar::pass(first, end1, a, a.left.min(b.position.0 - a.position.0));
         } else if b.position.0 < a.position.0 {
-            b = cigar::pass(second, ze, b, smaller(b.left, a.position.0 - b.position.0));
+            b = cigar::pass(second, end2, b, b.left.min(a.position.0 - b.position.0));
         } else {
-            let n = smaller(a.left, b.left);
-            h = rows::treat_row(
-                w.strategies,
-                first,
-                second,
-                y,
-                z,
-                ReadOffset(a.offset.0),
-                ReadOffset(b.offset.0),
-                n,
-                h,
-            );
+            let n = a.left.min(b.left);
+            h = rows::treat_row(w, first, second, a.offset, b.offset, n, h);
             met += n;
-            a = cigar::pass(first, ye, a, n);
-            b = cigar::pass(second, ze, b, n);
+            a = cigar::pass(first, end1, a, n);
+            b = cigar::pass(second, end2, b, n);
         }
     }
     Met {
@@ -84,33 +64,23 @@ pub fn merge(
 }
 
 // Whether two records whose alignments start at the positions p and q share a position: the same walk,
-// up to the first one. It only reads.
+// up to the first one.
+// Kept: a second walk beside `merge`, which lends both records to be written between the steps of its cursors: one walk
+// over a closure would have to borrow them to be written here too, where they are lent to be read.
 pub fn meet(first: &[u8], second: &[u8], y: Layout, z: Layout, p: RefPos, q: RefPos) -> bool
     requires { Lies y (length first.now) × Lies z (length second.now) × Walked y p first.now × Walked z q second.now }
     ensures { result ≡ ltb 0 (length (shared y z p q first.now second.now)) }
 {
-    let from1 = p.0;
-    let from2 = q.0;
-    let mut a = cigar::begin(first, y, RefPos(from1));
-    let mut b = cigar::begin(second, z, RefPos(from2));
+    let mut a = cigar::begin(first, y, p);
+    let mut b = cigar::begin(second, z, q);
     while a.left != 0 {
         if b.left == 0 {
             return false;
         }
         if a.position.0 < b.position.0 {
-            a = cigar::pass(
-                first,
-                y.bases,
-                a,
-                smaller(a.left, b.position.0 - a.position.0),
-            );
+            a = cigar::pass(first, y.bases, a, a.left.min(b.position.0 - a.position.0));
         } else if b.position.0 < a.position.0 {
-            b = cigar::pass(
-                second,
-                z.bases,
-                b,
-                smaller(b.left, a.position.0 - b.position.0),
-            );
+            b = cigar::pass(second, z.bases, b, b.left.min(a.position.0 - b.position.0));
         } else {
             return true;
         }

@@ -4,7 +4,7 @@
 ghost use Rattle.std.specs.Prelude.{◌≡◌, ◌+◌, ◌*◌, ◌≤◌, ◌<◌, length};
 ghost use Rattle.fields.specs.Sound.{Lies};
 ghost use Rattle.stats.specs.Room.{Room};
-ghost use Rattle.positions.specs.Step.{state, job};
+ghost use Rattle.positions.specs.Step.{state};
 ghost use Rattle.positions.specs.Treating.{step, steps, row};
 
 use fields::{Layout, ReadOffset};
@@ -21,66 +21,60 @@ pub struct Job {
 
 // One shared position: base i of the first record and base j of the second.
 pub fn treat_one(
-    w: Strategies,
+    job: Job,
     first: &mut [u8],
     second: &mut [u8],
-    y: Layout,
-    z: Layout,
     i: ReadOffset,
     j: ReadOffset,
     g: CorrectionStats,
 ) -> CorrectionStats
-    requires { Lies y (length first.old) × Lies z (length second.old) × (i.0 < y.count) × (j.0 < z.count) × Room g 2 }
-    ensures { state first.new second.new result ≡ step (job w y z) (state first.old second.old g) i.0 j.0 }
+    requires { Lies job.first (length first.old) × Lies job.second (length second.old) × (i.0 < job.first.count) × (j.0 < job.second.count) × Room g 2 }
+    ensures { state first.new second.new result ≡ step job (state first.old second.old g) i.0 j.0 }
 {
-    let p = bases::get(first, y, i);
-    let q = bases::get(second, z, j);
-    let o = strategy::treat(w, p.base, p.quality, q.base, q.quality);
-    bases::set(first, y, i, o.base1, o.qual1);
-    bases::set(second, z, j, o.base2, o.qual2);
-    let growth = o.growth;
-    g.plus(growth)
+    let p = bases::get(first, job.first, i);
+    let q = bases::get(second, job.second, j);
+    let o = strategy::treat(job.strategies, p.base, p.quality, q.base, q.quality);
+    bases::set(first, job.first, i, o.base1, o.qual1);
+    bases::set(second, job.second, j, o.base2, o.qual2);
+    g.plus(o.growth)
 }
 
 // n shared positions in a row, from base i of the first record and base j of the second on. Bases are
 // written only where they differ, and the counts of agreements are added up beside the others.
 pub fn treat_row(
-    w: Strategies,
+    job: Job,
     first: &mut [u8],
     second: &mut [u8],
-    y: Layout,
-    z: Layout,
     i: ReadOffset,
     j: ReadOffset,
     n: usize,
     g: CorrectionStats,
 ) -> CorrectionStats
-    requires { Lies y (length first.old) × Lies z (length second.old) × (i.0 + n ≤ y.count) × (j.0 + n ≤ z.count) × Room g (2 * n) }
-    ensures { state first.new second.new result ≡ steps (job w y z) (row i.0 j.0 n) (state first.old second.old g) }
+    requires { Lies job.first (length first.old) × Lies job.second (length second.old) × (i.0 + n ≤ job.first.count) × (j.0 + n ≤ job.second.count) × Room g (2 * n) }
+    ensures { state first.new second.new result ≡ steps job (row i.0 j.0 n) (state first.old second.old g) }
 {
-    let yq = y.qualities;
-    let zq = z.qualities;
-    let mut t = 0;
+    let w = job.strategies;
+    let yq = job.first.qualities;
+    let zq = job.second.qualities;
     let mut h = g;
     let mut agreeing: u64 = 0;
     let mut corrected: u64 = 0;
-    while t < n {
+    for t in 0..n {
         let p = ReadOffset(i.0 + t);
         let q = ReadOffset(j.0 + t);
-        let a = bases::get(first, y, p);
-        let b = bases::get(second, z, q);
+        let a = bases::get(first, job.first, p);
+        let b = bases::get(second, job.second, q);
         if a.base == bases::N {
-            t += 1;
-        } else if a.base == b.base {
+            continue;
+        }
+        if a.base == b.base {
             let r = lane::agreed(w, a.quality, b.quality);
             first[yq + p.0] = r.qual1;
             second[zq + q.0] = r.qual2;
             agreeing += 1;
             corrected += u64::from(lane::changed(a.quality, b.quality, r.qual1, r.qual2));
-            t += 1;
         } else {
-            h = treat_one(w, first, second, y, z, p, q, h);
-            t += 1;
+            h = treat_one(job, first, second, p, q, h);
         }
     }
     h.plus(lane::agreements(agreeing, corrected))

@@ -34,8 +34,8 @@ pass-a-requires c =
     let loop = c.loop-a in
     let f = args.first.now in
     let g = args.second.now in
-    ready₁ any args.y args.z args.p args.q (unread f g) loop.a f loop.a.position.0 c.smaller.result loop.invariant.side₁ loop.invariant.first loop.invariant.front₁
-    c.requires.0 c.requires.2 (omega (arith, c.smaller.ensures))
+    ready₁ any args.y args.z args.p args.q (unread f g) loop.a f loop.a.position.0 c.min.result loop.invariant.side₁ loop.invariant.first loop.invariant.front₁
+    c.requires.0 c.requires.2 (omega (arith, c.min.ensures))
 
 pub loop-a-smaller-then-a-b : goal.loop-a-smaller-then-a-b
 loop-a-smaller-then-a-b c =
@@ -45,9 +45,9 @@ loop-a-smaller-then-a-b c =
     let g = args.second.now in
     omega (
       arith,
-      less₁ any args.y args.z args.p args.q (unread f g) loop.a c.pass-a.result loop.a.position.0 c.smaller.result loop.invariant.side₁
-          (omega (arith, c.smaller.ensures, c.if-a-b.true, c.loop-a-test.true))
-          (omega (arith, c.smaller.ensures)) c.pass-a.ensures,
+      less₁ any args.y args.z args.p args.q (unread f g) loop.a c.pass-a.result loop.a.position.0 c.min.result loop.invariant.side₁
+          (omega (arith, c.min.ensures, c.if-a-b.true, c.loop-a-test.true))
+          (omega (arith, c.min.ensures)) c.pass-a.ensures,
     )
 
 pub loop-a-preserved-then-a-b : goal.loop-a-preserved-then-a-b
@@ -56,8 +56,8 @@ loop-a-preserved-then-a-b c =
     let loop = c.loop-a in
     let f = args.first.now in
     let g = args.second.now in
-    merging_first any args.y args.z args.p args.q (unread f g) loop.a loop.b c.pass-a.result 0 (unread f g) c.smaller.result loop.invariant
-    (omega (arith, c.smaller.ensures)) (omega (arith, c.smaller.ensures, c.if-a-b.true)) c.pass-a.ensures
+    merging_first any args.y args.z args.p args.q (unread f g) loop.a loop.b c.pass-a.result 0 (unread f g) c.min.result loop.invariant
+    (omega (arith, c.min.ensures)) (omega (arith, c.min.ensures, c.if-a-b.true)) c.pass-a.ensures
 
 pub pass-b-requires : goal.pass-b-requires
 pass-b-requires c =
@@ -65,8 +65,8 @@ pass-b-requires c =
     let loop = c.loop-a in
     let f = args.first.now in
     let g = args.second.now in
-    ready₂ any args.y args.z args.p args.q (unread f g) loop.b g loop.a.position.0 c.smaller-then-b-a.result loop.invariant.side₂ loop.invariant.second loop.invariant.front₂
-    c.requires.1 c.requires.3 (omega (arith, c.smaller-then-b-a.ensures))
+    ready₂ any args.y args.z args.p args.q (unread f g) loop.b g loop.a.position.0 c.min-then-b-a.result loop.invariant.side₂ loop.invariant.second loop.invariant.front₂
+    c.requires.1 c.requires.3 (omega (arith, c.min-then-b-a.ensures))
 
 pub loop-a-smaller : goal.loop-a-smaller
 loop-a-smaller c =
@@ -76,9 +76,9 @@ loop-a-smaller c =
     let g = args.second.now in
     omega (
       arith,
-      less₂ any args.y args.z args.p args.q (unread f g) loop.b c.pass-b.result loop.a.position.0 c.smaller-then-b-a.result loop.invariant.side₂
-          (omega (arith, c.smaller-then-b-a.ensures, c.if-b-a.true, c.if-b-eq0.false))
-          (omega (arith, c.smaller-then-b-a.ensures)) c.pass-b.ensures,
+      less₂ any args.y args.z args.p args.q (unread f g) loop.b c.pass-b.result loop.a.position.0 c.min-then-b-a.result loop.invariant.side₂
+          (omega (arith, c.min-then-b-a.ensures, c.if-b-a.true, c.if-b-eq0.false))
+          (omega (arith, c.min-then-b-a.ensures)) c.pass-b.ensures,
     )
 
 pub loop-a-preserved : goal.loop-a-preserved
@@ -87,8 +87,8 @@ loop-a-preserved c =
     let loop = c.loop-a in
     let f = args.first.now in
     let g = args.second.now in
-    merging_second any args.y args.z args.p args.q (unread f g) loop.a loop.b c.pass-b.result 0 (unread f g) c.smaller-then-b-a.result loop.invariant
-    (omega (arith, c.smaller-then-b-a.ensures)) (omega (arith, c.smaller-then-b-a.ensures, c.if-b-a.true)) c.pass-b.ensures
+    merging_second any args.y args.z args.p args.q (unread f g) loop.a loop.b c.pass-b.result 0 (unread f g) c.min-then-b-a.result loop.invariant
+    (omega (arith, c.min-then-b-a.ensures)) (omega (arith, c.min-then-b-a.ensures, c.if-b-a.true)) c.pass-b.ensures
 
 pub returns-else-b-a : goal.returns-else-b-a
 returns-else-b-a c =

@@ -6,9 +6,9 @@ use Rattle.pair_merge.proofs.MeetLaws.{any, unread, Meeting}
 use Rattle.pair_merge.proofs.meet.Given as goal
 
 abbrev pub invariant-loop-a : goal.invariant-loop-a
-invariant-loop-a l = Meeting l.y l.z (record { 0 = l.from1 }) (record { 0 = l.from2 }) l.first l.second l.a l.b
+invariant-loop-a l = Meeting l.y l.z l.fn.p l.fn.q l.first l.second l.a l.b
 
 abbrev pub decreases-loop-a : goal.decreases-loop-a
 decreases-loop-a l =
-    (e₁ any l.y l.z (record { 0 = l.from1 }) (record { 0 = l.from2 }) (unread l.first l.second) - l.a.position.0)
-    + (e₂ any l.y l.z (record { 0 = l.from1 }) (record { 0 = l.from2 }) (unread l.first l.second) - l.b.position.0)
+    (e₁ any l.y l.z l.fn.p l.fn.q (unread l.first l.second) - l.a.position.0)
+    + (e₂ any l.y l.z l.fn.p l.fn.q (unread l.first l.second) - l.b.position.0)

@@ -45,8 +45,8 @@ pass-a-requires c =
     let args = c.args in
     let loop = c.loop-a in
     ready₁ args.w.strategies args.w.first args.w.second args.p args.q
-    (state args.first.now args.second.now args.g) loop.a loop.first loop.a.position.0 c.smaller.result
-    loop.invariant.side₁ loop.invariant.first loop.invariant.front₁ c.requires.0 c.requires.2 (omega (arith, c.smaller.ensures))
+    (state args.first.now args.second.now args.g) loop.a loop.first loop.a.position.0 c.min.result
+    loop.invariant.side₁ loop.invariant.first loop.invariant.front₁ c.requires.0 c.requires.2 (omega (arith, c.min.ensures))
 
 pub loop-a-smaller-then-a-b : goal.loop-a-smaller-then-a-b
 loop-a-smaller-then-a-b c =
@@ -56,9 +56,9 @@ loop-a-smaller-then-a-b c =
       arith,
       less₁ args.w.strategies args.w.first args.w.second args.p args.q
           (state args.first.now args.second.now args.g) loop.a c.pass-a.result loop.a.position.0
-          c.smaller.result loop.invariant.side₁
-          (omega (arith, c.smaller.ensures, c.if-a-b.true, c.loop-a-test.true))
-          (omega (arith, c.smaller.ensures)) (settled_at loop.invariant.front₁ c.pass-a.ensures),
+          c.min.result loop.invariant.side₁
+          (omega (arith, c.min.ensures, c.if-a-b.true, c.loop-a-test.true))
+          (omega (arith, c.min.ensures)) (settled_at loop.invariant.front₁ c.pass-a.ensures),
     )
 
 pub loop-a-preserved-then-a-b : goal.loop-a-preserved-then-a-b
@@ -67,8 +67,8 @@ loop-a-preserved-then-a-b c =
     let loop = c.loop-a in
     merging_first args.w.strategies args.w.first args.w.second args.p args.q
     (state args.first.now args.second.now args.g) loop.a loop.b c.pass-a.result loop.met
-    (state loop.first loop.second loop.h) c.smaller.result loop.invariant
-    (omega (arith, c.smaller.ensures)) (omega (arith, c.smaller.ensures, c.if-a-b.true))
+    (state loop.first loop.second loop.h) c.min.result loop.invariant
+    (omega (arith, c.min.ensures)) (omega (arith, c.min.ensures, c.if-a-b.true))
     (settled_at loop.invariant.front₁ c.pass-a.ensures)
 
 pub pass-b-requires : goal.pass-b-requires
@@ -76,8 +76,8 @@ pass-b-requires c =
     let args = c.args in
     let loop = c.loop-a in
     ready₂ args.w.strategies args.w.first args.w.second args.p args.q
-    (state args.first.now args.second.now args.g) loop.b loop.second loop.a.position.0 c.smaller-then-b-a.result
-    loop.invariant.side₂ loop.invariant.second loop.invariant.front₂ c.requires.1 c.requires.3 (omega (arith, c.smaller-then-b-a.ensures))
+    (state args.first.now args.second.now args.g) loop.b loop.second loop.a.position.0 c.min-then-b-a.result
+    loop.invariant.side₂ loop.invariant.second loop.invariant.front₂ c.requires.1 c.requires.3 (omega (arith, c.min-then-b-a.ensures))
 
 pub loop-a-smaller-then-b-a : goal.loop-a-smaller-then-b-a
 loop-a-smaller-then-b-a c =
@@ -87,9 +87,9 @@ loop-a-smaller-then-b-a c =
       arith,
       less₂ args.w.strategies args.w.first args.w.second args.p args.q
           (state args.first.now args.second.now args.g) loop.b c.pass-b.result loop.a.position.0
-          c.smaller-then-b-a.result loop.invariant.side₂
-          (omega (arith, c.smaller-then-b-a.ensures, c.if-b-a.true, c.if-b-eq0.false))
-          (omega (arith, c.smaller-then-b-a.ensures)) (settled_at loop.invariant.front₂ c.pass-b.ensures),
+          c.min-then-b-a.result loop.invariant.side₂
+          (omega (arith, c.min-then-b-a.ensures, c.if-b-a.true, c.if-b-eq0.false))
+          (omega (arith, c.min-then-b-a.ensures)) (settled_at loop.invariant.front₂ c.pass-b.ensures),
     )
 
 pub loop-a-preserved-then-b-a : goal.loop-a-preserved-then-b-a
@@ -98,8 +98,8 @@ loop-a-preserved-then-b-a c =
     let loop = c.loop-a in
     merging_second args.w.strategies args.w.first args.w.second args.p args.q
     (state args.first.now args.second.now args.g) loop.a loop.b c.pass-b.result loop.met
-    (state loop.first loop.second loop.h) c.smaller-then-b-a.result loop.invariant
-    (omega (arith, c.smaller-then-b-a.ensures)) (omega (arith, c.smaller-then-b-a.ensures, c.if-b-a.true))
+    (state loop.first loop.second loop.h) c.min-then-b-a.result loop.invariant
+    (omega (arith, c.min-then-b-a.ensures)) (omega (arith, c.min-then-b-a.ensures, c.if-b-a.true))
     (settled_at loop.invariant.front₂ c.pass-b.ensures)
 
 pub treat_row-h-requires : goal.treat_row-h-requires
@@ -107,16 +107,16 @@ treat_row-h-requires c =
     let loop = c.loop-a in (
       lies_same loop.invariant.first c.requires.0,
       lies_same loop.invariant.second c.requires.1,
-      omega (arith, c.smaller-n.ensures, loop.invariant.side₁.reads),
-      omega (arith, c.smaller-n.ensures, loop.invariant.side₂.reads),
-      room_less loop.h (2 * c.smaller-n.result) _
-          (omega (arith, c.smaller-n.ensures, loop.invariant.side₁.reads)) loop.invariant.room,
+      omega (arith, c.min-n.ensures, loop.invariant.side₁.reads),
+      omega (arith, c.min-n.ensures, loop.invariant.side₂.reads),
+      room_less loop.h (2 * c.min-n.result) _
+          (omega (arith, c.min-n.ensures, loop.invariant.side₁.reads)) loop.invariant.room,
     )
 
 pub overflow_add-met : goal.overflow_add-met
 overflow_add-met c =
     let loop = c.loop-a in
-    omega (arith, c.smaller-n.ensures, loop.invariant.side₁.reads, loop.invariant.few, c.requires.2.small)
+    omega (arith, c.min-n.ensures, loop.invariant.side₁.reads, loop.invariant.few, c.requires.2.small)
 
 pub pass-a-requires-else-b-a : goal.pass-a-requires-else-b-a
 pass-a-requires-else-b-a c =
@@ -126,12 +126,12 @@ pass-a-requires-else-b-a c =
     let second = args.second.now in
     let s₀ = state first second args.g in
     let s = state loop.first loop.second loop.h in
-    let pairs = row loop.a.offset.0 loop.b.offset.0 c.smaller-n.result in
+    let pairs = row loop.a.offset.0 loop.b.offset.0 c.min-n.result in
     let after = ran args.w.strategies args.w.first args.w.second args.p args.q s₀ loop.a loop.b loop.met s _ pairs
     (omega (arith, c.requires.0.bases)) (omega (arith, c.requires.1.bases)) loop.invariant c.treat_row-h.ensures in
     ready₁ args.w.strategies args.w.first args.w.second args.p args.q s₀ loop.a _ loop.a.position.0
-    c.smaller-n.result loop.invariant.side₁ after.first after.front₁ c.requires.0 c.requires.2
-    (omega (arith, c.smaller-n.ensures))
+    c.min-n.result loop.invariant.side₁ after.first after.front₁ c.requires.0 c.requires.2
+    (omega (arith, c.min-n.ensures))
 
 pub pass-b-requires-else-b-a : goal.pass-b-requires-else-b-a
 pass-b-requires-else-b-a c =
@@ -141,12 +141,12 @@ pass-b-requires-else-b-a c =
     let second = args.second.now in
     let s₀ = state first second args.g in
     let s = state loop.first loop.second loop.h in
-    let pairs = row loop.a.offset.0 loop.b.offset.0 c.smaller-n.result in
+    let pairs = row loop.a.offset.0 loop.b.offset.0 c.min-n.result in
     let after = ran args.w.strategies args.w.first args.w.second args.p args.q s₀ loop.a loop.b loop.met s _ pairs
     (omega (arith, c.requires.0.bases)) (omega (arith, c.requires.1.bases)) loop.invariant c.treat_row-h.ensures in
     ready₂ args.w.strategies args.w.first args.w.second args.p args.q s₀ loop.b _ loop.a.position.0
-    c.smaller-n.result loop.invariant.side₂ after.second after.front₂ c.requires.1 c.requires.3
-    (omega (arith, c.smaller-n.ensures))
+    c.min-n.result loop.invariant.side₂ after.second after.front₂ c.requires.1 c.requires.3
+    (omega (arith, c.min-n.ensures))
 
 pub loop-a-smaller : goal.loop-a-smaller
 loop-a-smaller c =
@@ -156,19 +156,19 @@ loop-a-smaller c =
     let second = args.second.now in
     let s₀ = state first second args.g in
     let s = state loop.first loop.second loop.h in
-    let pairs = row loop.a.offset.0 loop.b.offset.0 c.smaller-n.result in
+    let pairs = row loop.a.offset.0 loop.b.offset.0 c.min-n.result in
     let after = ran args.w.strategies args.w.first args.w.second args.p args.q s₀ loop.a loop.b loop.met s _ pairs
     (omega (arith, c.requires.0.bases)) (omega (arith, c.requires.1.bases)) loop.invariant c.treat_row-h.ensures in
     omega (
       arith,
       less₁ args.w.strategies args.w.first args.w.second args.p args.q s₀ loop.a c.pass-a-else-b-a.result
-          loop.a.position.0 c.smaller-n.result loop.invariant.side₁
-          (omega (arith, c.smaller-n.ensures, c.if-b-eq0.false, c.loop-a-test.true))
-          (omega (arith, c.smaller-n.ensures)) (settled_at after.front₁ c.pass-a-else-b-a.ensures),
+          loop.a.position.0 c.min-n.result loop.invariant.side₁
+          (omega (arith, c.min-n.ensures, c.if-b-eq0.false, c.loop-a-test.true))
+          (omega (arith, c.min-n.ensures)) (settled_at after.front₁ c.pass-a-else-b-a.ensures),
       less₂ args.w.strategies args.w.first args.w.second args.p args.q s₀ loop.b c.pass-b-else-b-a.result
-          loop.a.position.0 c.smaller-n.result loop.invariant.side₂
-          (omega (arith, c.smaller-n.ensures, c.if-b-eq0.false, c.loop-a-test.true))
-          (omega (arith, c.smaller-n.ensures)) (settled_at after.front₂ c.pass-b-else-b-a.ensures),
+          loop.a.position.0 c.min-n.result loop.invariant.side₂
+          (omega (arith, c.min-n.ensures, c.if-b-eq0.false, c.loop-a-test.true))
+          (omega (arith, c.min-n.ensures)) (settled_at after.front₂ c.pass-b-else-b-a.ensures),
     )
 
 pub loop-a-preserved : goal.loop-a-preserved
@@ -179,13 +179,13 @@ loop-a-preserved c =
     let second = args.second.now in
     let s₀ = state first second args.g in
     let s = state loop.first loop.second loop.h in
-    let pairs = row loop.a.offset.0 loop.b.offset.0 c.smaller-n.result in
+    let pairs = row loop.a.offset.0 loop.b.offset.0 c.min-n.result in
     let after = ran args.w.strategies args.w.first args.w.second args.p args.q s₀ loop.a loop.b loop.met s _ pairs
     (omega (arith, c.requires.0.bases)) (omega (arith, c.requires.1.bases)) loop.invariant c.treat_row-h.ensures in
     merging_both args.w.strategies args.w.first args.w.second args.p args.q s₀ loop.a loop.b
-    c.pass-a-else-b-a.result c.pass-b-else-b-a.result loop.met s _ c.smaller-n.result (omega (arith, c.requires.0.bases))
-    (omega (arith, c.requires.1.bases)) loop.invariant (omega (arith, c.smaller-n.ensures))
-    (omega (arith, c.smaller-n.ensures)) (omega (arith, c.if-b-a.false, c.if-a-b.false))
+    c.pass-a-else-b-a.result c.pass-b-else-b-a.result loop.met s _ c.min-n.result (omega (arith, c.requires.0.bases))
+    (omega (arith, c.requires.1.bases)) loop.invariant (omega (arith, c.min-n.ensures))
+    (omega (arith, c.min-n.ensures)) (omega (arith, c.if-b-a.false, c.if-a-b.false))
     (settled_at after.front₁ c.pass-a-else-b-a.ensures) (settled_at after.front₂ c.pass-b-else-b-a.ensures)
     c.treat_row-h.ensures
 

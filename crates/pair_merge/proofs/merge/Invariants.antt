@@ -9,9 +9,9 @@ use Rattle.pair_merge.proofs.merge.Given as goal
 
 abbrev pub invariant-loop-a : goal.invariant-loop-a
 invariant-loop-a l =
-    Merging l.w.strategies l.y l.z (record { 0 = l.from1 }) (record { 0 = l.from2 }) (state l.initial.first l.initial.second l.initial.h) l.a l.b l.met (state l.first l.second l.h)
+    Merging l.w.strategies l.w.first l.w.second l.fn.p l.fn.q (state l.initial.first l.initial.second l.initial.h) l.a l.b l.met (state l.first l.second l.h)
 
 abbrev pub decreases-loop-a : goal.decreases-loop-a
 decreases-loop-a l =
-    (e₁ l.w.strategies l.y l.z (record { 0 = l.from1 }) (record { 0 = l.from2 }) (state l.initial.first l.initial.second l.initial.h) - l.a.position.0)
-    + (e₂ l.w.strategies l.y l.z (record { 0 = l.from1 }) (record { 0 = l.from2 }) (state l.initial.first l.initial.second l.initial.h) - l.b.position.0)
+    (e₁ l.w.strategies l.w.first l.w.second l.fn.p l.fn.q (state l.initial.first l.initial.second l.initial.h) - l.a.position.0)
+    + (e₂ l.w.strategies l.w.first l.w.second l.fn.p l.fn.q (state l.initial.first l.initial.second l.initial.h) - l.b.position.0)

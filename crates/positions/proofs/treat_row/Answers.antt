@@ -6,12 +6,14 @@ use Rattle.bases.proofs.BaseLaws.{lies_same}
 use Rattle.positions.specs.Step.{state}
 use Rattle.lane.proofs.LaneLaws.{bit_low}
 use Rattle.positions.proofs.BesideLaws.{adding_start, adding_none, adding_agreed, adding_differ, adding_room, adding_adds, adding_end}
+use Rattle.positions.proofs.PointLaws.{Both}
 use Rattle.positions.proofs.treat_row.Goals as goal
+use Rattle.positions.proofs.treat_row.Goals.{then-a-b, else-a-b}
 
 pub loop-t-init : goal.loop-t-init
 loop-t-init c =
     let args = c.args in
-    adding_start args.w args.y args.z args.i.0 args.j.0 args.n
+    adding_start args.job.strategies args.job.first args.job.second args.i.0 args.j.0 args.n
     (state args.first.now args.second.now args.g) c.requires.4 (λ k q. omega (arith, c.type_inv.first k))
     (λ k q. omega (arith, c.type_inv.second k))
 
@@ -27,7 +29,7 @@ pub loop-t-preserved-then-a-eq-N : goal.loop-t-preserved-then-a-eq-N
 loop-t-preserved-then-a-eq-N c =
     let args = c.args in
     let loop = c.loop-t in
-    adding_none args.w args.y args.z args.i.0 args.j.0 args.n (state args.first.now args.second.now args.g)
+    adding_none args.job.strategies args.job.first args.job.second args.i.0 args.j.0 args.n (state args.first.now args.second.now args.g)
     loop.t loop.first loop.second loop.h loop.agreeing loop.corrected
     (record { first = c.requires.0; second = c.requires.1 }) c.requires.2 c.requires.3 c.loop-t-test.true
     loop.invariant (sym c.get-a.ensures.base ∙ c.if-a-eq-N.true)
@@ -59,23 +61,6 @@ overflow_add-corrected c =
       c.changed.ensures,
     )
 
-pub overflow_add-t-then-a-b : goal.overflow_add-t-then-a-b
-overflow_add-t-then-a-b c =
-    omega (arith, c.loop-t-test.true, c.requires.2, c.requires.0.qualities, c.well_formed.1.0.0)
-
-pub loop-t-preserved-then-a-b : goal.loop-t-preserved-then-a-b
-loop-t-preserved-then-a-b c =
-    let args = c.args in
-    let loop = c.loop-t in
-    adding_agreed args.w args.y args.z args.i.0 args.j.0 args.n
-    (state args.first.now args.second.now args.g) loop.t loop.first loop.second loop.h loop.agreeing
-    loop.corrected (record { first = c.requires.0; second = c.requires.1 }) c.requires.2 c.requires.3
-    c.loop-t-test.true loop.invariant c.agreed-r.result c.from-corrected.result
-    (sym c.get-a.ensures.base ∙ (c.if-a-b.true ∙ c.get-b.ensures.base))
-    (λ e. c.if-a-eq-N.false (c.get-a.ensures.base ∙ e))
-    (rw (c.get-a.ensures.quality, c.get-b.ensures.quality) at c.agreed-r.ensures)
-    (rw (c.get-a.ensures.quality, c.get-b.ensures.quality) at (c.from-corrected.ensures ∙ c.changed.ensures))
-
 pub treat_one-h-requires : goal.treat_one-h-requires
 treat_one-h-requires c =
     let args = c.args in
@@ -84,30 +69,37 @@ treat_one-h-requires c =
       lies_same loop.invariant.run.second c.requires.1,
       omega arith,
       omega arith,
-      adding_room args.w args.y args.z args.i.0 args.j.0 args.n
+      adding_room args.job.strategies args.job.first args.job.second args.i.0 args.j.0 args.n
           (state args.first.now args.second.now args.g) loop.t loop.first loop.second loop.h loop.agreeing
           loop.corrected (record { first = c.requires.0; second = c.requires.1 }) c.requires.2 c.requires.3
           c.loop-t-test.true loop.invariant,
     )
 
-pub overflow_add-t-else-a-b : goal.overflow_add-t-else-a-b
-overflow_add-t-else-a-b c =
-    omega (arith, c.loop-t-test.true, c.requires.2, c.requires.0.qualities, c.well_formed.1.0.0)
-
 pub loop-t-preserved : goal.loop-t-preserved
 loop-t-preserved c =
     let args = c.args in
     let loop = c.loop-t in
-    adding_differ args.w args.y args.z args.i.0 args.j.0 args.n
-    (state args.first.now args.second.now args.g) loop.t loop.first loop.second loop.h loop.agreeing
-    loop.corrected (record { first = c.requires.0; second = c.requires.1 }) c.requires.2 c.requires.3
-    c.loop-t-test.true loop.invariant _ _ _ c.treat_one-h.ensures
+    let both : Both args.job.first args.job.second (state args.first.now args.second.now args.g) = record { first = c.requires.0; second = c.requires.1 } in
+    elim c.if-a-b.branch [
+      | then-a-b w ↦ rw (w.first-is, w.second-is, w.h-is, w.agreeing-is, w.corrected-is)
+          (adding_agreed args.job.strategies args.job.first args.job.second args.i.0 args.j.0 args.n
+          (state args.first.now args.second.now args.g) loop.t loop.first loop.second loop.h loop.agreeing
+          loop.corrected both c.requires.2 c.requires.3 c.loop-t-test.true loop.invariant w.agreed-r.result w.from-corrected.result
+          (sym c.get-a.ensures.base ∙ (w.if-a-b.true ∙ c.get-b.ensures.base))
+          (λ e. c.if-a-eq-N.false (c.get-a.ensures.base ∙ e))
+          (rw (c.get-a.ensures.quality, c.get-b.ensures.quality) at w.agreed-r.ensures)
+          (rw (c.get-a.ensures.quality, c.get-b.ensures.quality) at (w.from-corrected.ensures ∙ w.changed.ensures)))
+      | else-a-b w ↦ rw (w.first-is, w.second-is, w.h-is, w.agreeing-is, w.corrected-is)
+          (adding_differ args.job.strategies args.job.first args.job.second args.i.0 args.j.0 args.n
+          (state args.first.now args.second.now args.g) loop.t loop.first loop.second loop.h loop.agreeing
+          loop.corrected both c.requires.2 c.requires.3 c.loop-t-test.true loop.invariant _ _ _ w.treat_one-h.ensures)
+    ]
 
 pub plus-requires : goal.plus-requires
 plus-requires c =
     let args = c.args in
     let loop = c.loop-t in
-    adding_adds args.w args.y args.z args.i.0 args.j.0 args.n (state args.first.now args.second.now args.g)
+    adding_adds args.job.strategies args.job.first args.job.second args.i.0 args.j.0 args.n (state args.first.now args.second.now args.g)
     loop.t loop.first loop.second loop.h loop.agreeing loop.corrected c.agreements.result c.agreements.ensures
     loop.invariant
 
@@ -121,6 +113,6 @@ pub returns : goal.returns
 returns c =
     let args = c.args in
     let loop = c.loop-t in
-    adding_end args.w args.y args.z args.i.0 args.j.0 args.n (state args.first.now args.second.now args.g)
+    adding_end args.job.strategies args.job.first args.job.second args.i.0 args.j.0 args.n (state args.first.now args.second.now args.g)
     loop.t loop.first loop.second loop.h loop.agreeing loop.corrected c.agreements.result
     c.agreements.ensures loop.invariant c.plus.result c.plus.ensures c.loop-t-test.false

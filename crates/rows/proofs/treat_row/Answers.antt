@@ -9,7 +9,7 @@ use Rattle.rows.proofs.treat_row.Goals as goal
 pub loop-t-init : goal.loop-t-init
 loop-t-init c =
     let args = c.args in
-    adding_start args.w args.y args.z args.i.0 args.j.0 args.n
+    adding_start args.job.strategies args.job.first args.job.second args.i.0 args.j.0 args.n
     (state args.first.now args.second.now args.g) c.requires.4
     (λ k q. omega (arith, c.type_inv.first k)) (λ k q. omega (arith, c.type_inv.second k))
 
@@ -71,7 +71,7 @@ treat_one-h-requires c =
       lies_same (omega (arith, loop.invariant.run.second)) c.requires.1,
       omega (arith, c.if-t-n.true, c.requires.2),
       omega (arith, c.if-t-n.true, c.requires.3),
-      adding_room args.w args.y args.z args.i.0 args.j.0 args.n
+      adding_room args.job.strategies args.job.first args.job.second args.i.0 args.j.0 args.n
           (state args.first.now args.second.now args.g) loop.t loop.first loop.second loop.h loop.agreeing loop.corrected
           (record { first = c.requires.0; second = c.requires.1 }) c.requires.2 c.requires.3 c.loop-t-test.true loop.invariant,
     )
@@ -89,13 +89,13 @@ loop-t-preserved-then-t-n c =
     let args = c.args in
     let loop = c.loop-t in
     let mid =
-    adding_stretch args.w args.y args.z args.i.0 args.j.0 args.n
+    adding_stretch args.job.strategies args.job.first args.job.second args.i.0 args.j.0 args.n
     (state args.first.now args.second.now args.g)
     (record { first = c.requires.0; second = c.requires.1 }) c.requires.2 c.requires.3
     c.agreeing-k.result loop.t loop.first loop.second loop.h loop.agreeing loop.corrected
     _ _ c.treat-corrected.result (omega (arith, c.agreeing-k.ensures.most, loop.invariant.run.low))
     c.agreeing-k.ensures.alike loop.invariant c.treat-corrected.ensures.0 in
-    adding_differ args.w args.y args.z args.i.0 args.j.0 args.n
+    adding_differ args.job.strategies args.job.first args.job.second args.i.0 args.j.0 args.n
     (state args.first.now args.second.now args.g)
     (loop.t + c.agreeing-k.result) _ _ loop.h (loop.agreeing + c.agreeing-k.result) (loop.corrected + c.treat-corrected.result)
     (record { first = c.requires.0; second = c.requires.1 }) c.requires.2 c.requires.3 c.if-t-n.true mid _ _ _ c.treat_one-h.ensures
@@ -108,7 +108,7 @@ pub loop-t-preserved : goal.loop-t-preserved
 loop-t-preserved c =
     let args = c.args in
     let loop = c.loop-t in
-    adding_stretch args.w args.y args.z args.i.0 args.j.0 args.n
+    adding_stretch args.job.strategies args.job.first args.job.second args.i.0 args.j.0 args.n
     (state args.first.now args.second.now args.g)
     (record { first = c.requires.0; second = c.requires.1 }) c.requires.2 c.requires.3
     c.agreeing-k.result loop.t loop.first loop.second loop.h loop.agreeing loop.corrected
@@ -119,7 +119,7 @@ pub plus-requires : goal.plus-requires
 plus-requires c =
     let args = c.args in
     let loop = c.loop-t in
-    adding_adds args.w args.y args.z args.i.0 args.j.0 args.n
+    adding_adds args.job.strategies args.job.first args.job.second args.i.0 args.j.0 args.n
     (state args.first.now args.second.now args.g) loop.t loop.first loop.second loop.h loop.agreeing loop.corrected c.agreements.result c.agreements.ensures loop.invariant
 
 pub shape_of-first : goal.shape_of-first
@@ -136,6 +136,6 @@ pub returns : goal.returns
 returns c =
     let args = c.args in
     let loop = c.loop-t in
-    adding_end args.w args.y args.z args.i.0 args.j.0 args.n
+    adding_end args.job.strategies args.job.first args.job.second args.i.0 args.j.0 args.n
     (state args.first.now args.second.now args.g) loop.t loop.first loop.second loop.h loop.agreeing loop.corrected
     c.agreements.result c.agreements.ensures loop.invariant c.plus.result c.plus.ensures c.loop-t-test.false

@@ -7,7 +7,7 @@ use Rattle.rows.proofs.treat_row.Given as goal
 
 abbrev pub invariant-loop-t : goal.invariant-loop-t
 invariant-loop-t l =
-    Adding l.w l.y l.z l.i.0 l.j.0 l.n (state l.initial.first l.initial.second l.initial.h) l.t l.first l.second l.h l.agreeing l.corrected
+    Adding l.job.strategies l.job.first l.job.second l.i.0 l.j.0 l.n (state l.initial.first l.initial.second l.initial.h) l.t l.first l.second l.h l.agreeing l.corrected
 
 abbrev pub decreases-loop-t : goal.decreases-loop-t
 decreases-loop-t l = l.n - l.t
