@@ -36,6 +36,7 @@ pub struct Grouped {
 // there are, and what their pairs give.
 fn group_framed(
     buf: &mut [u8],
+    room: &mut [u8; 65536],
     w: Strategies,
     stats: CorrectionStats,
 ) -> Result<(usize, Applied), Refusal>
@@ -52,8 +53,7 @@ fn group_framed(
     let mut mate = [1usize; 256];
     group_mates::find(frames, &mut mate);
     group_verdicts::judge_all(frames, &mate)?;
-    let mut room = [0u8; 65536];
-    let applied = group_applying::apply_all(buf, &mut room, &begins, count, &mate, w, stats);
+    let applied = group_applying::apply_all(buf, room, &begins, count, &mate, w, stats);
     Ok((count, applied))
 }
 
@@ -67,11 +67,12 @@ fn group_numbered(
 ) -> Result<(usize, Applied), Refusal>
     ensures { ended_by result buf.new stats ≡ group_of agreement disagreement cap buf.old stats }
 {
+    let mut room = [0u8; 65536];
     let w = strategy::by_number(agreement, disagreement, cap)?;
     if stats.full() {
         return Err(Refusal::Count);
     }
-    group_framed(buf, w, stats)
+    group_framed(buf, &mut room, w, stats)
 }
 
 // Corrects the overlapping pairs of a group of framed records where they stand, by the strategies and the
