@@ -84,8 +84,10 @@ pub fn locate(first: &[u8], second: &[u8]) -> Result<(u32, u32), Reason>
     Ok((pos1, pos2))
 }
 
-// What the alignment of a sound record covers: its operations judged, then its end.
+// What the alignment of a sound record covers: its operations judged, then its end. The pair call takes a
+// tenth more instructions for records apart where it, or `judge`, isn't a part of the caller.
 #[tactic(auto, unfolding(crate::specs::Judgement::span_in))]
+#[inline(always)]
 pub fn span_of(s: &[u8], y: Layout, pos: u32, place: u16) -> Result<Extent, Refusal>
     requires { Sound s.now y }
     ensures { result ≡ span_in y s.now pos place }
@@ -106,6 +108,7 @@ pub fn unshared(p: Extent, q: Extent) -> Reason
 }
 
 // Two sound records judged by steps 4 to 7, from their bytes alone; a refusal names the place given.
+#[inline(always)]
 pub fn judge(
     first: &[u8],
     second: &[u8],
