@@ -3,125 +3,106 @@
 // paper says.
 #![tactic(auto)]
 
-ghost use Rattle.std.specs.Prelude.{◌≤◌};
-
+use cases::{Counts, Told};
 use group::{GroupAnswer, Grouped};
 use stats::CorrectionStats;
+use std::{fmt, io};
 
-// The largest count that a call takes.
-const LIMIT: u64 = 18446744073692774399;
+// What a group call answers, as `ok 2 1 1` or as the refusal.
+#[derive(Clone, Copy)]
+struct Answered(GroupAnswer);
 
-fn say(text: &[u8]) {
-    io::write_all(1, text);
+impl fmt::Display for Answered {
+    fn fmt<W: fmt::Write>(&self, f: &mut fmt::Formatter<W>) -> fmt::Result {
+        match self.0 {
+            GroupAnswer::Done {
+                records,
+                pairs,
+                overlapping,
+            } => write!(f, "ok {records} {pairs} {overlapping}"),
+            GroupAnswer::Refused(r) => Told(r).fmt(f),
+        }
+    }
 }
 
-// A text with a number behind it.
-fn say_next(text: &[u8], n: u64) {
-    say(text);
-    io::print_decimal(1, n);
+// The frame of a record of 38 bytes: a base A of this quality at position 1, without a name.
+fn frame(flags: u8, quality: u8) -> [u8; 42] {
+    let mut frame = [0; 42];
+    frame[0] = 38;
+    frame[16] = 1;
+    frame[18] = flags;
+    frame[20] = 1;
+    frame[36] = 16;
+    frame[40] = 16;
+    frame[41] = quality;
+    frame
 }
 
-// One frame of a record of 38 bytes, over zero bytes: a base A at position 1, without a name.
-fn lay(d: &mut [u8; 84], at: usize, flags: u8, quality: u8)
-    requires { at ≤ 42 }
-{
-    d[at] = 38;
-    d[at + 16] = 1;
-    d[at + 18] = flags;
-    d[at + 20] = 1;
-    d[at + 36] = 16;
-    d[at + 40] = 16;
-    d[at + 41] = quality;
+// A group of two mates whose bases agree, with the qualities 30 and 20.
+fn mates() -> [u8; 84] {
+    let mut group = [0; 84];
+    group[..42].copy_from_slice(&frame(64, 30));
+    group[42..].copy_from_slice(&frame(128, 20));
+    group
 }
 
-// A group of two mates, whose bases agree, with the qualities a and b.
-fn pair_of(a: u8, b: u8) -> [u8; 84] {
-    let mut d = [0u8; 84];
-    lay(&mut d, 0, 64, a);
-    lay(&mut d, 42, 128, b);
-    d
-}
-
-// The counts, of which `overlapping` is n.
-fn counts(n: u64) -> CorrectionStats {
+// The counts, of which the first is given.
+fn counts(overlapping: u64) -> CorrectionStats {
     CorrectionStats {
-        overlapping: n,
+        overlapping,
         agreeing: 2,
         disagreeing: 3,
         corrected: 4,
     }
 }
 
-fn say_answer(answer: GroupAnswer) {
-    match answer {
-        GroupAnswer::Done {
-            records,
-            pairs,
-            overlapping,
-        } => {
-            say_next(b": ok ", records as u64);
-            say_next(b" ", pairs as u64);
-            say_next(b" ", overlapping as u64);
-        }
-        GroupAnswer::Refused(r) => {
-            say_next(b": refusal ", r.number() as u64);
-            say_next(b" at place ", r.place() as u64);
-        }
+// Ends a line by what a call gave, and the qualities of the mates behind it.
+fn tell(rt: &impl Print, grouped: &Grouped, mates: &[u8; 84]) -> io::Result<()> {
+    let answer = Answered(grouped.answer);
+    let counts = Counts(grouped.stats);
+    println!(rt;
+        ": {answer}, qualities {} {}, counts {counts}",
+        mates[41], mates[83]
+    )
+}
+
+// Runs the mates by this agreement and cap.
+fn try_cap(rt: &impl Print, agreement: u32, cap: u32, overlapping: u64) -> io::Result<()> {
+    print!(rt; "agreement {agreement}, cap {cap}")?;
+    let mut mates = mates();
+    let grouped = group::group(&mut mates, agreement, 0, cap, counts(overlapping));
+    tell(rt, &grouped, &mates)
+}
+
+// Runs them with the last byte cut off, which refuses the second frame.
+fn try_cut_off(rt: &impl Print, cap: u32) -> io::Result<()> {
+    print!(rt; "cut off, cap {cap}")?;
+    let mut mates = mates();
+    let grouped = group::group(&mut mates[..83], 0, 0, cap, counts(1));
+    tell(rt, &grouped, &mates)
+}
+
+// Runs each limit of the cap and one off, a number that would be 40 in eight bits, and the largest.
+fn try_limits(rt: &impl Print, overlapping: u64) -> io::Result<()> {
+    for cap in [0, 1, 2, 40, 93, 94, 296, u32::MAX] {
+        try_cap(rt, 0, cap, overlapping)?;
     }
+    Ok(())
 }
 
-// What the call gave, and the qualities of the pair behind it.
-fn say_grouped(grouped: Grouped, a: u8, b: u8) {
-    let answer = grouped.answer;
-    say_answer(answer);
-    say_next(b", qualities ", a as u64);
-    say_next(b" ", b as u64);
-    let after = grouped.stats;
-    say_next(b", counts ", after.overlapping);
-    say_next(b" ", after.agreeing);
-    say_next(b" ", after.disagreeing);
-    say_next(b" ", after.corrected);
-    say(b"\n");
+fn run(rt: &impl Print) -> io::Result<()> {
+    try_limits(rt, 1)?;
+    for (agreement, cap) in [(1, 2), (2, 2), (1, 94), (2, 1), (3, 93), (3, 94)] {
+        try_cap(rt, agreement, cap, 1)?;
+    }
+    try_limits(rt, stats::LIMIT + 1)?;
+    for cap in [93, 94] {
+        try_cut_off(rt, cap)?;
+    }
+    Ok(())
 }
 
-// The pair of 30 and 20 by this agreement and cap, `overlapping` being n before the call.
-fn run(agreement: u32, cap: u32, n: u64) {
-    let mut d = pair_of(30, 20);
-    say_next(b"agreement ", agreement as u64);
-    say_next(b", cap ", cap as u64);
-    let grouped = group::group(&mut d, agreement, 0, cap, counts(n));
-    say_grouped(grouped, d[41], d[83]);
-}
-
-// The same with the last byte cut off, which refuses the second frame.
-fn run_cut(cap: u32) {
-    let mut d = pair_of(30, 20);
-    say_next(b"cut off, cap ", cap as u64);
-    let grouped = group::group(&mut d[0..83], 0, 0, cap, counts(1));
-    say_grouped(grouped, d[41], d[83]);
-}
-
-// Each limit of the cap and one off, with a number that would be 40 in eight bits, and the largest.
-fn limits(n: u64) {
-    run(0, 0, n);
-    run(0, 1, n);
-    run(0, 2, n);
-    run(0, 40, n);
-    run(0, 93, n);
-    run(0, 94, n);
-    run(0, 296, n);
-    run(0, 4294967295, n);
-}
-
-fn main() {
-    limits(1);
-    run(1, 2, 1);
-    run(2, 2, 1);
-    run(1, 94, 1);
-    run(2, 1, 1);
-    run(3, 93, 1);
-    run(3, 94, 1);
-    limits(LIMIT + 1);
-    run_cut(93);
-    run_cut(94);
+// A line that can't be written ends the run.
+fn main(rt: HostRuntime) {
+    let _ = run(&rt);
 }

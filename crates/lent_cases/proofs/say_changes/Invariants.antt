@@ -1,9 +1,0 @@
--- `lent_cases::say_changes` is safe and ends: i is at most n.
-use Rattle.std.proofs.Common.{◌≤◌, ◌-◌}
-use Rattle.lent_cases.proofs.say_changes.Given as goal
-
-abbrev pub invariant-loop-i : goal.invariant-loop-i
-invariant-loop-i l = l.i ≤ l.n
-
-abbrev pub decreases-loop-i : goal.decreases-loop-i
-decreases-loop-i l = l.n - l.i
