@@ -2,74 +2,62 @@
 // each case is a name of 32 bytes, two u32 sizes, the input, and what must be written.
 #![tactic(auto)]
 
-ghost use Rattle.std.specs.Prelude.{◌≡◌, ◌≤◌, length};
+use std::io;
+use std::io::{ErrorKind, Read, Write};
 
-// Room for an input, and for what must be written.
-fn room() -> [u8; 70000]
-    ensures { 70000 ≡ length result }
-{
-    [0; 70000]
+// The rooms of a case: its input, what must be written for it, and the line that is.
+#[derive(Drop)]
+struct Rooms {
+    input: [u8; 70000],
+    expected: [u8; 70000],
+    line: [u8; 256],
 }
 
-// Whether m bytes must be written, and they are the line and then the group.
-fn as_expected(line: &[u8], group: &[u8], expected: &[u8], m: usize) -> bool {
-    let want = line_text::part(expected, 0, m);
-    let front = line_text::part(want, 0, line.len());
-    let back = line_text::part(want, line.len(), m);
-    check::same(line, front) && check::same(group, back)
+// Reads a size.
+fn read_size<R: Read>(cases: &mut R) -> io::Result<usize> {
+    let mut size = [0; 4];
+    cases.read_exact(&mut size)?;
+    Ok(u32::from_le_bytes(size) as usize)
 }
 
-// Writes whether a case is as expected.
-fn tell(good: bool) {
-    if good {
-        io::write_all(1, b"as expected\n");
+// Reads a case, runs it and writes whether it is as expected. An error where no case is left, or where it
+// has no room. A case whose bytes end early is run with what is there.
+fn run_case<R: Read, W: Write>(cases: &mut R, output: &mut W, rooms: &mut Rooms) -> io::Result<()> {
+    let mut name = [0; 32];
+    cases.read_exact(&mut name)?;
+    let n = read_size(cases)?;
+    let m = read_size(cases)?;
+    let Some(input) = rooms.input.get_mut(..n) else {
+        return Err(ErrorKind::InvalidData.into());
+    };
+    let Some(expected) = rooms.expected.get_mut(..m) else {
+        return Err(ErrorKind::InvalidData.into());
+    };
+    let _ = cases.read_exact(input);
+    let _ = cases.read_exact(expected);
+    let written = line_overlap::overlap(input, n, &mut rooms.line);
+    output.write_all(&name)?;
+    if expected.strip_prefix(written.line_in(&rooms.line)) == Some(written.group_in(input, 2)) {
+        writeln!(output, "as expected")
     } else {
-        io::write_all(1, b"DIFFERS\n");
+        writeln!(output, "DIFFERS")
     }
 }
 
-// Reads a case, runs it and writes whether it is as expected. False where no case is left.
-fn run_case(head: &mut [u8], input: &mut [u8], expected: &mut [u8], out: &mut [u8; 256]) -> bool {
-    let got = io::read_full(0, head);
-    if got < 40 {
-        return false;
+// Runs the cases up to the last, of which there are at most 1,000.
+fn run<R: Read, W: Write>(cases: &mut R, output: &mut W) -> io::Result<()> {
+    let mut rooms = Rooms {
+        input: [0; 70000],
+        expected: [0; 70000],
+        line: [0; 256],
+    };
+    for _ in 0..1000 {
+        run_case(cases, output, &mut rooms)?;
     }
-    let n = fields::u32_at(head, 32) as usize;
-    let m = fields::u32_at(head, 36) as usize;
-    if input.len() < n {
-        return false;
-    }
-    if expected.len() < m {
-        return false;
-    }
-    io::read_full(0, &mut input[0..n]);
-    io::read_full(0, &mut expected[0..m]);
-    let written = line_overlap::overlap(input, n, out);
-    io::write_all(1, line_text::part(head, 0, 32));
-    tell(as_expected(
-        written.line_in(out),
-        written.group_in(input, 2),
-        expected,
-        m,
-    ));
-    true
+    Ok(())
 }
 
-// Runs the cases, of which there are at most 1,000.
-fn run_all(head: &mut [u8], input: &mut [u8], expected: &mut [u8], out: &mut [u8; 256]) {
-    let mut left: usize = 1000;
-    while 0 < left {
-        if !run_case(head, input, expected, out) {
-            return;
-        }
-        left -= 1;
-    }
-}
-
-fn main() {
-    let mut head = [0u8; 40];
-    let mut input = room();
-    let mut expected = room();
-    let mut out = [0u8; 256];
-    run_all(&mut head, &mut input, &mut expected, &mut out);
+// The run ends where no case is left, which is no failure.
+fn main(rt: HostRuntime) {
+    let _ = run(&mut rt.stdin(), &mut rt.stdout());
 }

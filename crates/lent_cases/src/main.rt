@@ -77,6 +77,12 @@ impl fmt::Display for Changes<'_> {
     }
 }
 
+// Stores a number in the four bytes from a place on, the least first.
+fn put_number(record: &mut [u8; 65537], at: u8, number: u32) {
+    let at = usize::from(at);
+    record[at..at + 4].copy_from_slice(&number.to_le_bytes());
+}
+
 impl Change {
     // How many bytes the record has: 42, or up to one more than the longest has.
     fn size(self) -> usize
@@ -97,8 +103,7 @@ impl Change {
         record[36..38].copy_from_slice(&bases);
         record[38..42].copy_from_slice(&qualities);
         if let Change::Number(at, number) = self {
-            let at = usize::from(at);
-            record[at..at + 4].copy_from_slice(&number.to_le_bytes());
+            put_number(&mut record, at, number);
         }
         record
     }

@@ -2,196 +2,129 @@
 // pair goes through the exported call, and the answer and every byte are compared.
 #![tactic(auto)]
 
-ghost use Rattle.std.specs.Prelude.{◌≡◌, length};
-
 use std::fs::File;
+use std::io;
 use std::io::Read;
 
-// How long the two records and the counts of a case are.
+// What stands before a case: the numbers of its strategies, how long its two records and its counts
+// are, and the stored answer.
 #[derive(Clone, Copy)]
-struct Sizes {
+struct Head {
+    agreement: u32,
+    disagreement: u32,
     first: usize,
     second: usize,
     counts: usize,
+    answer: u32,
 }
 
-// Room for the longest record of the list.
-fn room() -> [u8; 66000]
-    ensures { 66000 ≡ length result }
-{
-    [0; 66000]
-}
-
-// Reads n bytes to the front of a room. False where it has no room for them or they are not there.
-fn fill<R: Read>(list: &mut R, to: &mut [u8], n: usize) -> bool {
-    if to.len() < n {
-        return false;
+impl Head {
+    // Reads the head of the next case.
+    fn read<R: Read>(list: &mut R) -> io::Result<Head> {
+        Ok(Head {
+            agreement: read_number(list)?,
+            disagreement: read_number(list)?,
+            first: read_number(list)? as usize,
+            second: read_number(list)? as usize,
+            counts: read_number(list)? as usize,
+            answer: read_number(list)?,
+        })
     }
-    list.read_exact(&mut to[0..n]).is_ok()
 }
 
-// The number at a place of a case's head, or 0 past its end.
-fn number(head: &[u8], at: usize) -> u32 {
-    if head.len() < 4 {
-        return 0;
-    }
-    if head.len() - 4 < at {
-        return 0;
-    }
-    fields::u32_at(head, at)
+// Reads a number of the list.
+fn read_number<R: Read>(list: &mut R) -> io::Result<u32> {
+    let mut number = [0; 4];
+    list.read_exact(&mut number)?;
+    Ok(u32::from_le_bytes(number))
 }
 
-// Reads the two records and the counts of a case.
-fn fill_all<R: Read>(
-    list: &mut R,
-    n: Sizes,
-    first: &mut [u8],
-    second: &mut [u8],
-    counts: &mut [u8],
-) -> bool {
-    let a = fill(list, first, n.first);
-    let b = fill(list, second, n.second);
-    let c = fill(list, counts, n.counts);
-    all(a, b, c)
+// Rooms for the two records and the counts of a case, each for the longest record of the list.
+#[derive(Clone, Copy)]
+struct Rooms {
+    first: [u8; 66000],
+    second: [u8; 66000],
+    counts: [u8; 66000],
 }
 
-// Copies the front of one room to another.
-fn keep(from: &[u8], to: &mut [u8], n: usize) {
-    if n <= from.len() {
-        if n <= to.len() {
-            to[0..n].copy_from_slice(&from[0..n]);
+impl Rooms {
+    // Rooms of zeros.
+    fn new() -> Rooms {
+        Rooms {
+            first: [0; 66000],
+            second: [0; 66000],
+            counts: [0; 66000],
         }
     }
-}
 
-// Whether the fronts of two rooms hold the same bytes.
-fn same_front(a: &[u8], b: &[u8], n: usize) -> bool {
-    if a.len() < n {
-        return false;
+    // Reads the records and the counts of a case to the fronts of the rooms. False where one has no room
+    // or is not there.
+    fn read<R: Read>(&mut self, list: &mut R, head: &Head) -> bool {
+        let first = read_front(list, self.first.get_mut(..head.first));
+        let second = read_front(list, self.second.get_mut(..head.second));
+        let counts = read_front(list, self.counts.get_mut(..head.counts));
+        first && second && counts
     }
-    if b.len() < n {
-        return false;
-    }
-    check::same(&a[0..n], &b[0..n])
-}
 
-// The exported call on the fronts of three rooms; 0 where a front is not there.
-fn call(head: &[u8], n: Sizes, first: &mut [u8], second: &mut [u8], counts: &mut [u8]) -> u32 {
-    let n1 = n.first;
-    let n2 = n.second;
-    let n3 = n.counts;
-    if first.len() < n1 {
-        return 0;
-    }
-    if second.len() < n2 {
-        return 0;
-    }
-    if counts.len() < n3 {
-        return 0;
-    }
-    overlap_c::overlap_call_2(
-        &mut first[0..n1],
-        &mut second[0..n2],
-        number(head, 0),
-        number(head, 4),
-        strategy::FULL_CAP as u32,
-        &mut counts[0..n3],
-    )
-}
-
-// What is stored to be there afterwards: for an overlap it follows in the list, and else it is what
-// was given.
-fn fill_after<R: Read>(
-    list: &mut R,
-    n: Sizes,
-    stored: u32,
-    was1: &mut [u8],
-    was2: &mut [u8],
-    was3: &mut [u8],
-) -> bool {
-    if stored != 1 {
-        return true;
-    }
-    fill_all(list, n, was1, was2, was3)
-}
-
-fn all(a: bool, b: bool, c: bool) -> bool {
-    if !a {
-        return false;
-    }
-    if !b {
-        return false;
-    }
-    c
-}
-
-// Whether the call answers as stored and leaves what is stored.
-fn agrees<R: Read>(
-    list: &mut R,
-    head: &[u8],
-    n: Sizes,
-    first: &mut [u8],
-    second: &mut [u8],
-    counts: &mut [u8],
-    was1: &mut [u8],
-    was2: &mut [u8],
-    was3: &mut [u8],
-) -> bool {
-    let given = fill_all(list, n, first, second, counts);
-    keep(first, was1, n.first);
-    keep(second, was2, n.second);
-    keep(counts, was3, n.counts);
-    let stored = number(head, 20);
-    let read = fill_after(list, n, stored, was1, was2, was3);
-    let answered = call(head, n, first, second, counts) == stored;
-    let same1 = same_front(first, was1, n.first);
-    let same2 = same_front(second, was2, n.second);
-    let same3 = same_front(counts, was3, n.counts);
-    all(all(given, read, answered), all(same1, same2, same3), true)
-}
-
-// The sizes that a case's head gives.
-fn sizes_of(head: &[u8]) -> Sizes {
-    Sizes {
-        first: number(head, 8) as usize,
-        second: number(head, 12) as usize,
-        counts: number(head, 16) as usize,
-    }
-}
-
-// Replays n cases of the list, and answers how many agree.
-fn replay<R: Read>(
-    list: &mut R,
-    n: u32,
-    head: &mut [u8],
-    first: &mut [u8],
-    second: &mut [u8],
-    counts: &mut [u8],
-    was1: &mut [u8],
-    was2: &mut [u8],
-    was3: &mut [u8],
-) -> u32 {
-    let mut k = 0;
-    let mut good = 0;
-    while k < n {
-        if !fill(list, head, 24) {
-            return good;
-        }
-        if agrees(
-            list,
-            head,
-            sizes_of(head),
+    // What the exported call answers on the fronts; 0 where a front is not there.
+    fn call(&mut self, head: &Head) -> u32 {
+        let Some(first) = self.first.get_mut(..head.first) else {
+            return 0;
+        };
+        let Some(second) = self.second.get_mut(..head.second) else {
+            return 0;
+        };
+        let Some(counts) = self.counts.get_mut(..head.counts) else {
+            return 0;
+        };
+        let cap = u32::from(strategy::FULL_CAP);
+        overlap_c::overlap_call_2(
             first,
             second,
+            head.agreement,
+            head.disagreement,
+            cap,
             counts,
-            was1,
-            was2,
-            was3,
-        ) {
+        )
+    }
+
+    // Whether the fronts hold the same bytes as those of other rooms.
+    fn agrees(&self, other: &Rooms, head: &Head) -> bool {
+        self.first.get(..head.first) == other.first.get(..head.first)
+            && self.second.get(..head.second) == other.second.get(..head.second)
+            && self.counts.get(..head.counts) == other.counts.get(..head.counts)
+    }
+}
+
+// Reads the front of a room. False where the room has none that long, or the bytes are not there.
+fn read_front<R: Read>(list: &mut R, front: Option<&mut [u8]>) -> bool {
+    match front {
+        Some(front) => list.read_exact(front).is_ok(),
+        None => false,
+    }
+}
+
+// Whether the call on the case behind this head answers as stored and leaves what is stored: for an
+// overlap that follows in the list, and else it is what was given.
+fn agrees<R: Read>(list: &mut R, head: &Head, rooms: &mut Rooms, stored: &mut Rooms) -> bool {
+    let given = rooms.read(list, head);
+    *stored = *rooms;
+    let left = head.answer != 1 || stored.read(list, head);
+    let answered = rooms.call(head) == head.answer;
+    given && left && answered && rooms.agrees(stored, head)
+}
+
+// Replays n cases, or those up to where the list ends, and answers how many agree.
+fn replay<R: Read>(list: &mut R, n: u32) -> u32 {
+    let mut rooms = Rooms::new();
+    let mut stored = Rooms::new();
+    let mut good = 0;
+    for _k in 0..n {
+        let Ok(head) = Head::read(list) else {
+            return good;
+        };
+        if agrees(list, &head, &mut rooms, &mut stored) {
             good += 1;
-            k += 1;
-        } else {
-            k += 1;
         }
     }
     good
@@ -205,25 +138,11 @@ fn main(rt: HostRuntime) {
             return;
         }
     };
-    let mut head = [0u8; 24];
-    let mut first = room();
-    let mut second = room();
-    let mut counts = room();
-    let mut was1 = room();
-    let mut was2 = room();
-    let mut was3 = room();
-    fill(&mut list, &mut head, 8);
-    let n = number(&head, 4);
-    let good = replay(
-        &mut list,
-        n,
-        &mut head,
-        &mut first,
-        &mut second,
-        &mut counts,
-        &mut was1,
-        &mut was2,
-        &mut was3,
-    );
+    let mut mark = [0; 4];
+    let mut count = [0; 4];
+    let _ = list.read_exact(&mut mark);
+    let _ = list.read_exact(&mut count);
+    let n = u32::from_le_bytes(count);
+    let good = replay(&mut list, n);
     let _ = println!(rt; "{good} of {n} stored pairs agree");
 }
