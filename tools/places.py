@@ -63,7 +63,7 @@ def places_in(code):
             yield 1, m.start()
     # 1: a field `answer`; a number for a kind (FIRST, LAST, a role) or for none (0 in a table of indices); a result taken apart and made again.
     kinds = r"\bpub answer:|\bconst (?:FIRST|LAST)\b|\brole: u\w+|" + TABLE + r"\[[^]]*\] [=!]= 0\b|\b0 (?:[=!]=|<) " + TABLE + r"\["
-    again = r"|\b[\w:]+\((\w+)\) => (?:return )?(?:\w+::)*[A-Z]\w*\(\1\)|\bNone => None\b"
+    again = r"|\b[\w:]+\((\w+)\) => (?:return )?(?:\w+::)*[A-Z]\w*\(\1\)(?!\.)|\bNone => None\b"
     yield from ((1, m.start()) for m in re.finditer(kinds + again, code))
     # 3: each `while` and `loop`, and each `for` over a range whose counter stands in an index.
     for m in re.finditer(r"\b(?:while|loop|for (\w+) in [^{]*\.\.[^{]*)(?=[ {])", code):
@@ -79,7 +79,7 @@ def places_in(code):
         yield from [(5, at)] * (len(params) > 6)
         # 6: a slice with a usize beside it for its length, a table of indices as a parameter, and one made as an array.
         sized = re.search(SLICE, " ".join(params)) and any(re.match("(?:n|m|len|count|size|begin): usize$", p) for p in params)
-        yield from [(6, at)] * bool(sized or any(re.match(TABLE + ": " + SLICE, p) for p in params))
+        yield from [(6, at)] * bool(sized or any(re.match(TABLE + ": " + SLICE + "(?!u8)", p) for p in params))
         yield from ((6, begin + m.start()) for m in re.finditer(r"\blet (?:mut )?" + TABLE + r" = \[", body))
         # 7: a bool parameter that an `if` asks, and a match each of whose arms makes the same call.
         yield from [(7, at) for p in params if p.endswith(": bool") and re.search(r"\bif !?" + p.split(":")[0] + r" \{", body)]

@@ -90,6 +90,7 @@ fn try_limits(rt: &impl Print, overlapping: u64) -> io::Result<()> {
     Ok(())
 }
 
+// Runs all cases.
 fn run(rt: &impl Print) -> io::Result<()> {
     try_limits(rt, 1)?;
     for (agreement, cap) in [(1, 2), (2, 2), (1, 94), (2, 1), (3, 93), (3, 94)] {

@@ -339,6 +339,7 @@ fn merge(rt: &impl Print) -> io::Result<()> {
     Ok(())
 }
 
+// Runs all examples.
 fn run(rt: &impl Print) -> io::Result<()> {
     treat_all(rt)?;
     treat_capped(rt)?;

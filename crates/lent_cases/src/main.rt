@@ -171,6 +171,7 @@ fn each(n: u64) -> [CorrectionStats; 4] {
     ]
 }
 
+// The four counts in their order.
 fn counts(overlapping: u64, agreeing: u64, disagreeing: u64, corrected: u64) -> CorrectionStats {
     CorrectionStats {
         overlapping,
@@ -337,6 +338,7 @@ fn merge_limits(rt: &impl Print) -> io::Result<()> {
     Ok(())
 }
 
+// Runs all cases.
 fn run(rt: &impl Print) -> io::Result<()> {
     let most = counts(u64::MAX, u64::MAX, u64::MAX, u64::MAX);
     run_overlaps(rt)?;

@@ -130,6 +130,7 @@ fn replay<R: Read>(list: &mut R, n: u32) -> u32 {
     good
 }
 
+// The list begins with a mark and the number of its cases.
 fn main(rt: HostRuntime) {
     let mut list = match File::open(&rt, "pairs.bin") {
         Ok(list) => list,

@@ -178,6 +178,7 @@ fn too_short(rt: &impl Print) -> io::Result<()> {
     Ok(())
 }
 
+// Runs all records.
 fn run(rt: &impl Print) -> io::Result<()> {
     lengths(rt)?;
     numbers(rt)?;
