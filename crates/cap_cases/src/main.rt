@@ -74,11 +74,16 @@ fn try_cap(rt: &impl Print, agreement: u32, cap: u32, overlapping: u64) -> io::R
     tell(rt, &grouped, &mates)
 }
 
-// Runs them with the last byte cut off, which refuses the second frame.
+// Calls on all bytes but the last, which refuses the second frame.
+fn call_cut_off(mates: &mut [u8; 84], cap: u32) -> Grouped {
+    group::group(&mut mates[..83], 0, 0, cap, counts(1))
+}
+
+// Runs the mates with the last byte cut off.
 fn try_cut_off(rt: &impl Print, cap: u32) -> io::Result<()> {
     print!(rt; "cut off, cap {cap}")?;
     let mut mates = mates();
-    let grouped = group::group(&mut mates[..83], 0, 0, cap, counts(1));
+    let grouped = call_cut_off(&mut mates, cap);
     tell(rt, &grouped, &mates)
 }
 
