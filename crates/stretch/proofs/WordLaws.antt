@@ -124,8 +124,13 @@ run_word a b i j v w n h k f =
       called = λ u l e. (f.well u l).1 (h.code u (omega (arith, f.most)) ∙ e);
     }
 
-pub run_start : (a b : List ℕ) (i j : ℕ) → Run a b i j 0
-run_start a b i j = record { same = λ k h. absurd (omega arith); called = λ k h. absurd (omega arith) }
+-- the halves before t are the same and none is N, and the next word begins where the first did in its byte
+pub record Scanned (a b : List ℕ) (i j t : ℕ) : Type 0 where
+  pub run : Run a b i j t
+  pub even : t % 2 ≡ 0
+
+pub scan_start : (a b : List ℕ) (i j : ℕ) → Scanned a b i j 0
+scan_start a b i j = record { run = record { same = λ k h. absurd (omega arith); called = λ k h. absurd (omega arith) }; even = refl }
 
 -- ---- two records: base i of one is half 2 * bases + i
 base_code : (s : List ℕ) (y : Layout) (i k : ℕ) → code_at s (2 * (y.bases + i / 2) + i % 2 + k) ≡ base_at s y (i + k)
@@ -143,31 +148,30 @@ module _ (a b : List ℕ) (y z : Layout) (i j at₁ odd₁ at₂ odd₂ : ℕ) (
         called = λ k h x. (rw (e₁, d₁) at (r.called k h)) (base_code a y i k ∙ x);
       }
 
-  -- u words are looked at, and v and w are the next
-  module _ (u v w n : ℕ) (so : Run a b (2 * at₁ + odd₁) (2 * at₂ + odd₂) (16 * u)) (h : Holds a (2 * (at₁ + 8 * u) + odd₁) v) (k : Holds b (2 * (at₂ + 8 * u) + odd₂) w) (f : Stretch v w n) where
-    next : (at odd : ℕ) → 2 * (at + 8 * u) + odd ≡ 2 * at + odd + 16 * u
-    next at odd = omega arith
+  module _ (t v w n : ℕ) (so : Scanned a b (2 * at₁ + odd₁) (2 * at₂ + odd₂) t) (h : Holds a (2 * (at₁ + t / 2) + odd₁) v) (k : Holds b (2 * (at₂ + t / 2) + odd₂) w) (f : Stretch v w n) where
+    next : (at odd : ℕ) → 2 * (at + t / 2) + odd ≡ 2 * at + odd + t
+    next at odd = omega (arith, so.even)
 
-    further : Run a b (2 * at₁ + odd₁ + 16 * u) (2 * at₂ + odd₂ + 16 * u) n
-    further = rw (next at₁ odd₁, next at₂ odd₂) at (run_word a b (2 * (at₁ + 8 * u) + odd₁) (2 * (at₂ + 8 * u) + odd₂) v w n h k f)
+    further : Run a b (2 * at₁ + odd₁ + t) (2 * at₂ + odd₂ + t) n
+    further = rw (next at₁ odd₁, next at₂ odd₂) at (run_word a b (2 * (at₁ + t / 2) + odd₁) (2 * (at₂ + t / 2) + odd₂) v w n h k f)
 
-    pub scan_turn : 16 ≤ n → Run a b (2 * at₁ + odd₁) (2 * at₂ + odd₂) (16 * (u + 1))
-    scan_turn l = run_less a b _ _ (16 * u + 16) (16 * (u + 1)) (omega arith) (run_more a b _ _ (16 * u) 16 so (run_less a b _ _ n 16 l further))
+    pub scan_turn : 16 ≤ n → Scanned a b (2 * at₁ + odd₁) (2 * at₂ + odd₂) (t + 16)
+    scan_turn l = record { run = run_more a b _ _ t 16 so.run (run_less a b _ _ n 16 l further); even = omega (arith, so.even) }
 
     -- the stretch ends in this word, unless that lies past the m positions
-    pub scan_found : (m r : ℕ) → n < 16 → r ≡ min (16 * u + n) m → Agreeing a b y z i j m r
+    pub scan_found : (m r : ℕ) → n < 16 → r ≡ min (t + n) m → Agreeing a b y z i j m r
     scan_found m r l e =
         record {
           most = omega arith;
-          alike = alike_run r (run_less a b _ _ (16 * u + n) r (omega arith) (run_more a b _ _ (16 * u) n so further));
+          alike = alike_run r (run_less a b _ _ (t + n) r (omega arith) (run_more a b _ _ t n so.run further));
           ends = λ q.
-              let x : r ≡ 16 * u + n = omega arith in
-              let p : 2 * (at₁ + 8 * u) + odd₁ + n ≡ 2 * (y.bases + i / 2) + i % 2 + (16 * u + n) = omega arith in
-              let o : 2 * (at₂ + 8 * u) + odd₂ + n ≡ 2 * (z.bases + j / 2) + j % 2 + (16 * u + n) = omega arith in
-              let here₁ : half_of v n ≡ base_at a y (i + (16 * u + n)) = h.code n l ∙ (ap (code_at a) p ∙ base_code a y i (16 * u + n)) in
-              let here₂ : half_of w n ≡ base_at b z (j + (16 * u + n)) = k.code n l ∙ (ap (code_at b) o ∙ base_code b z j (16 * u + n)) in
+              let x : r ≡ t + n = omega arith in
+              let p : 2 * (at₁ + t / 2) + odd₁ + n ≡ 2 * (y.bases + i / 2) + i % 2 + (t + n) = omega (arith, so.even) in
+              let o : 2 * (at₂ + t / 2) + odd₂ + n ≡ 2 * (z.bases + j / 2) + j % 2 + (t + n) = omega (arith, so.even) in
+              let here₁ : half_of v n ≡ base_at a y (i + (t + n)) = h.code n l ∙ (ap (code_at a) p ∙ base_code a y i (t + n)) in
+              let here₂ : half_of w n ≡ base_at b z (j + (t + n)) = k.code n l ∙ (ap (code_at b) o ∙ base_code b z j (t + n)) in
               rw (x, ← here₁, ← here₂) (f.ends l);
         }
 
-  pub scan_end : (t m : ℕ) → m ≤ t → Run a b (2 * at₁ + odd₁) (2 * at₂ + odd₂) t → Agreeing a b y z i j m m
-  scan_end t m l so = record { most = omega arith; alike = alike_run m (run_less a b _ _ t m l so); ends = λ q. absurd (omega arith) }
+  pub scan_end : (t m : ℕ) → m ≤ t → Scanned a b (2 * at₁ + odd₁) (2 * at₂ + odd₂) t → Agreeing a b y z i j m m
+  scan_end t m l so = record { most = omega arith; alike = alike_run m (run_less a b _ _ t m l so.run); ends = λ q. absurd (omega arith) }

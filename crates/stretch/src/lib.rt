@@ -78,11 +78,12 @@ pub fn agreeing(
     let odd1 = i.0 % 2;
     let odd2 = j.0 % 2;
     for k in 0..n.div_ceil(16) {
-        let a = word(first, at1 + 8 * k, odd1);
-        let b = word(second, at2 + 8 * k, odd2);
+        let t = 16 * k;
+        let a = word(first, at1 + t / 2, odd1);
+        let b = word(second, at2 + t / 2, odd2);
         let same = first_unwell(a, b);
         if same < 16 {
-            return (16 * k + same).min(n);
+            return (t + same).min(n);
         }
     }
     n
