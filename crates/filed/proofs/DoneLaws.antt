@@ -77,7 +77,6 @@ module _ (s out : List ℕ) (g : CorrectionStats) (n : ℕ) (h : CorrectionStats
   -- how the frames end
   done_ending : (x : Result ℕ Refusal) → ending_of s ≡ x → IsDone (on_ending s out g x) → MarkedDone s n h
   done_ending (Err r) e d = absurd (refused_not r d)
-  done_ending (Err TrailerMissing) e d = absurd (refused_not TrailerMissing d)
   done_ending (Ok m) e d = done_size m e (eqb (length s) (begin_of s m + 50)) refl d
 
   -- a group that is answered so is marked so

@@ -37,7 +37,6 @@ module _ (s out : List ℕ) (g : CorrectionStats) where
 
   on_ending_lem : (x : Result ℕ Refusal) → Kept out g (on_ending s out g x)
   on_ending_lem (Err r) = (refl, refl)
-  on_ending_lem (Err TrailerMissing) = (refl, refl)
   on_ending_lem (Ok n) = go (eqb (length s) (begin_of s n + 50))
     where
       go : (v : Bool) → Kept out g (cond v (on_trailer s out g n (begin_of s n) (trailer_at s (begin_of s n))) (ended (Refused TrailerMissing) out g))

@@ -94,7 +94,6 @@ module _ (s out : List ℕ) (g : CorrectionStats) (n q o : ℕ) (h : CorrectionS
     where
       ending : (x : Result ℕ Refusal) → ending_of s ≡ x → on_ending s out g x ≡ ended (Corrected n q o h) b g' → (m : ℕ) × ((ending_of s ≡ Ok m) × Made s out n q o h b m)
       ending (Err r) f c = absurd (refused_not r c)
-      ending (Err TrailerMissing) f c = absurd (refused_not TrailerMissing c)
       ending (Ok m) f c = go (eqb (length s) (begin_of s m + 50)) refl c
         where
           go : (t : Bool) → eqb (length s) (begin_of s m + 50) ≡ t

@@ -67,7 +67,6 @@ module _ (s out : List ℕ) (g : CorrectionStats) (long : length s ≤ length ou
 
   on_ending_lem : (x : Result ℕ Refusal) → ending_of s ≡ x → Outcome s out g (on_ending s out g x) (on_ending s s g x)
   on_ending_lem (Err r) e = refused r refl refl
-  on_ending_lem (Err TrailerMissing) e = refused TrailerMissing refl refl
   on_ending_lem (Ok m) e = on_size m e (eqb (length s) (begin_of s m + 50)) refl
 
   on_counts : (t : Bool) → Outcome s out g (cond t (ended (Refused Count) out g) (on_ending s out g (ending_of s))) (cond t (ended (Refused Count) s g) (on_ending s s g (ending_of s)))

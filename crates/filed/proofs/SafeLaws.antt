@@ -48,7 +48,6 @@ module _ (z : List ℕ) (n : ℕ) (ends : Ends z n) (size : length z ≡ begin_o
 
   torn_end : (out : List ℕ) (g : CorrectionStats) (x : Result ℕ Refusal) → ending_of (take k z) ≡ x → (r : Refusal) × (on_ending (take k z) out g x ≡ ended (Refused r) out g)
   torn_end out g (Err r) e = (r, refl)
-  torn_end out g (Err TrailerMissing) e = (TrailerMissing, refl)
   torn_end out g (Ok m) e =
       let b = same_end m (ends_of (take k z) m e) in
       (TrailerMissing, rw (ne_eqb (length (take k z)) (begin_of (take k z) m + 50) (λ q. omega (arith, front_size))) refl)

@@ -23,6 +23,17 @@ pub record Ended : Type 0 where
 abbrev pub ended : FiledAnswer → List ℕ → CorrectionStats → Ended
 ended a out g = record { answer = a; bytes = out; stats = g }
 
+-- the counts g after a call with this answer
+abbrev pub counted : FiledAnswer → CorrectionStats → CorrectionStats
+counted (Corrected n q o h) g = plus g h
+counted (AlreadyDone n h) g = g
+counted (Refused r) g = g
+
+-- what a call gives with this answer; or that is refused
+abbrev pub ended_by : Result FiledAnswer Refusal → List ℕ → CorrectionStats → Ended
+ended_by (Ok a) out g = ended a out (counted a g)
+ended_by (Err r) out g = ended (Refused r) out g
+
 -- the filed group s with its first p bytes corrected to u, and the growth h in its trailer
 abbrev pub corrected_with : List ℕ → ℕ → List ℕ → CorrectionStats → List ℕ
 corrected_with s p u h = u ++ stamped (drop p s) h
@@ -50,7 +61,6 @@ on_trailer s out g n p t =
 -- the frames' refusals; 20 where no zero size ended them, or where not 50 bytes stand from it
 abbrev pub on_ending : List ℕ → List ℕ → CorrectionStats → Result ℕ Refusal → Ended
 on_ending s out g (Err r) = ended (Refused r) out g
-on_ending s out g (Err TrailerMissing) = ended (Refused TrailerMissing) out g
 on_ending s out g (Ok n) =
     cond (eqb (length s) (begin_of s n + 50)) (on_trailer s out g n (begin_of s n) (trailer_at s (begin_of s n))) (ended (Refused TrailerMissing) out g)
 

@@ -2,22 +2,22 @@
 // group is corrected into another buffer, front to back; a corrected one is known and left alone.
 #![tactic(auto)]
 
-ghost use Rattle.std.specs.Prelude.{◌≡◌, true, false, ◌+◌, ◌≤◌, length, take};
-ghost use Rattle.stats.specs.Counts.{full, plus};
-ghost use Rattle.stats.specs.Room.{Adds};
+ghost use Rattle.std.specs.Prelude.{◌≡◌, ◌↔◌, IsTrue, false, ◌+◌, ◌<◌, ◌≤◌, length, take};
+ghost use Rattle.stats.specs.declared.CorrectionStats.{CorrectionStats};
+ghost use Rattle.stats.specs.Counts.{full};
 ghost use Rattle.group_frames.specs.Part.{part, splice};
 ghost use Rattle.group_frames.specs.Frame.{begin_of};
-ghost use Rattle.group_frames.specs.Table.{FrameTable};
+ghost use Rattle.group_frames.specs.Table.{Tabled};
 ghost use Rattle.group_mates.specs.Table.{Mated};
 ghost use Rattle.filed_ending.specs.Found.{FramesEnd};
-ghost use Rattle.filed_writing.specs.Short.{Short, Tabled};
+ghost use Rattle.filed_writing.specs.Short.{Short};
 ghost use Rattle.filed_writing.specs.Turn.{AllPassed};
 ghost use Rattle.filed_writing.specs.Written.{WrittenTo};
 ghost use Rattle.filed_trailer.specs.Trailer.{stamped};
-ghost use Rattle.filed.specs.Filed.{ended, on_raw, on_ending, filed_of};
-ghost use Rattle.filed.specs.Final.{Final, FiledTo};
+ghost use Rattle.filed.specs.Filed.{ended, counted, ended_by, on_raw, on_ending, filed_of};
+ghost use Rattle.filed.specs.Final.{Final, Before, FiledTo, Fits, FitsBy, Slight};
 
-use filed_trailer::Trailer;
+use filed_trailer::{State, Trailer};
 use group_applying::Applied;
 use group_frames::Frames;
 use refusal::Refusal;
@@ -42,19 +42,23 @@ pub enum FiledAnswer {
 }
 
 // The answer, and the counts after the call.
+// Kept: the refusal inside the answer and the counts by value beside it are the form that the interface is
+// agreed in, for this call as for the pair call and the group call.
 #[derive(Clone, Copy)]
 pub struct Filed {
     pub answer: FiledAnswer,
     pub stats: CorrectionStats,
 }
 
-// A refusal, with the counts as they came.
-fn refused(r: Refusal, stats: CorrectionStats) -> Filed
-    ensures { (result.answer ≡ FiledAnswer.Refused r) × (result.stats ≡ stats) }
+// The counts after a call with this answer: only a group that was corrected adds to them.
+fn counted(answer: FiledAnswer, stats: CorrectionStats) -> CorrectionStats
+    requires { Fits answer stats }
+    ensures { result ≡ counted answer stats }
 {
-    Filed {
-        answer: FiledAnswer::Refused(r),
-        stats,
+    match answer {
+        FiledAnswer::Corrected { growth, .. } => stats.plus(growth),
+        FiledAnswer::AlreadyDone { .. } => stats,
+        FiledAnswer::Refused(_) => stats,
     }
 }
 
@@ -62,80 +66,57 @@ fn refused(r: Refusal, stats: CorrectionStats) -> Filed
 // rooms for the longest record would cost more to clear than most groups to correct.
 const SMALL: usize = 1024;
 
-// Whether the small rooms take every record.
+// The longest record that a group may have.
+const LARGE: usize = 65536;
+
+// Whether the small rooms take every record, each of which is a size of 4 bytes behind where its frame begins.
 fn small(begins: &[usize], n: usize) -> bool
-    requires { Tabled begins.now n }
-    ensures { (result ≡ true → Short begins.now n 1024) × (result ≡ false → Short begins.now n 1024 → ⊥) }
+    requires { n < length begins.now }
+    ensures { IsTrue result ↔ Short begins.now n 1024 }
 {
-    let mut k: usize = 0;
-    while k < n {
-        if SMALL < begins[k + 1] - (begins[k] + 4) {
-            return false;
-        }
-        k += 1;
-    }
-    true
+    begins[..n]
+        .iter()
+        .zip(begins[1..].iter())
+        .all(|(begin, end)| end.saturating_sub(*begin) <= SMALL + 4)
 }
 
-// The frames of a raw group of small records corrected into `out`, front to back.
-fn write_small(
-    s: &[u8],
-    begins: &[usize],
-    n: usize,
+// The frames of a raw group corrected into `out`, front to back, in rooms for records of so many bytes.
+fn write_in<const ROOM: usize>(
+    frames: Frames<'_>,
     mate: &[usize],
     lead: &mut [usize],
     w: Strategies,
     out: &mut [u8],
 ) -> Applied
-    requires { FrameTable s.now begins.now n × Mated s.now mate.now n × (256 ≤ length lead.old) × (begin_of s.now n ≤ length out.old) × Short begins.now n 1024 × AllPassed s.now n }
-    ensures { WrittenTo w s.now n out.old out.new result }
+    requires { Tabled frames × Mated frames.bytes.now mate.now frames.count × (256 ≤ length lead.old) × (begin_of frames.bytes.now frames.count ≤ length out.old) × Short frames.begins.now frames.count ROOM × AllPassed frames.bytes.now frames.count × (ROOM ≤ 65536) }
+    ensures { WrittenTo w frames.entry.bytes.now frames.entry.count out.old out.new result }
 {
-    let mut left = [0u8; SMALL];
-    let mut right = [0u8; SMALL];
-    filed_writing::write_all(s, begins, n, mate, lead, w, &mut left, &mut right, out)
-}
-
-// The frames of a raw group of records of any length corrected into `out`, front to back.
-fn write_large(
-    s: &[u8],
-    begins: &[usize],
-    n: usize,
-    mate: &[usize],
-    lead: &mut [usize],
-    w: Strategies,
-    out: &mut [u8],
-) -> Applied
-    requires { FrameTable s.now begins.now n × Mated s.now mate.now n × (256 ≤ length lead.old) × (begin_of s.now n ≤ length out.old) × AllPassed s.now n }
-    ensures { WrittenTo w s.now n out.old out.new result }
-{
-    let mut left = [0u8; 65536];
-    let mut right = [0u8; 65536];
-    filed_writing::write_all(s, begins, n, mate, lead, w, &mut left, &mut right, out)
+    let mut left = [0u8; ROOM];
+    let mut right = [0u8; ROOM];
+    filed_writing::write_all(frames, mate, lead, w, &mut left, &mut right, out)
 }
 
 // The frames of a raw group corrected into `out`, front to back: in the small rooms, and where a record is
 // too long for them, again in the large ones. Since it calls itself, it is compiled by itself and the rooms are
 // not taken into it: a group of small records does not hold the 128 KiB of the large ones on its stack.
 fn write_frames(
-    s: &[u8],
-    begins: &[usize],
-    n: usize,
+    frames: Frames<'_>,
     mate: &[usize],
     w: Strategies,
     out: &mut [u8],
     large: bool,
 ) -> Applied
-    requires { FrameTable s.now begins.now n × Mated s.now mate.now n × (begin_of s.now n ≤ length out.old) × AllPassed s.now n }
-    ensures { WrittenTo w s.now n out.old out.new result }
+    requires { Tabled frames × Mated frames.bytes.now mate.now frames.count × (begin_of frames.bytes.now frames.count ≤ length out.old) × AllPassed frames.bytes.now frames.count }
+    ensures { WrittenTo w frames.entry.bytes.now frames.entry.count out.old out.new result }
 {
     let mut lead = [0usize; 256];
     if large {
-        return write_large(s, begins, n, mate, &mut lead, w, out);
+        return write_in::<LARGE>(frames, mate, &mut lead, w, out);
     }
-    if small(begins, n) {
-        return write_small(s, begins, n, mate, &mut lead, w, out);
+    if small(frames.begins, frames.count) {
+        return write_in::<SMALL>(frames, mate, &mut lead, w, out);
     }
-    write_frames(s, begins, n, mate, w, out, true)
+    write_frames(frames, mate, w, out, true)
 }
 
 // The trailer, made for a corrected group and put behind its frames. The frames must stand before it.
@@ -143,87 +124,54 @@ fn put_trailer(filed: &[u8], p: usize, growth: CorrectionStats, out: &mut [u8])
     requires { (p + 50 ≤ length filed.now) × (p + 50 ≤ length out.old) × Final (take p filed.now) out.old p growth }
     ensures { out.new ≡ splice out.old p (p + 50) (stamped (part filed.now p (p + 50)) growth) }
 {
-    let mut t = [0u8; 50];
+    let mut t = [0u8; filed_trailer::SIZE];
     t.copy_from_slice(&filed[p..p + filed_trailer::SIZE]);
     filed_trailer::stamp(&mut t, growth);
     out[p..p + filed_trailer::SIZE].copy_from_slice(&t);
 }
 
-// A raw filed group corrected into `out`: the frames, and then the trailer.
+// A raw filed group corrected into `out`: its frames, and then the trailer.
 fn write_filed(
     filed: &[u8],
-    begins: &[usize],
-    n: usize,
-    p: usize,
+    frames: Frames<'_>,
     mate: &[usize],
     w: Strategies,
     out: &mut [u8],
 ) -> Applied
-    requires { FramesEnd filed.now begins.now n × (p ≡ begin_of filed.now n) × Mated (take p filed.now) mate.now n × (length filed.now ≡ p + 50) × (length filed.now ≤ length out.old) × AllPassed (take p filed.now) n }
-    ensures { FiledTo w filed.now p n out.old out.new result }
+    requires { Before frames filed.now × Mated frames.bytes.now mate.now frames.count × (length filed.now ≤ length out.old) × AllPassed frames.bytes.now frames.count }
+    ensures { FiledTo w filed.now (begin_of filed.now frames.entry.count) frames.entry.count out.old out.new result }
 {
-    let applied = write_frames(&filed[0..p], begins, n, mate, w, out, false);
+    let applied = write_frames(frames, mate, w, out, false);
     let growth = applied.stats;
-    put_trailer(filed, p, growth, out);
+    put_trailer(filed, frames.bytes.len(), growth, out);
     applied
-}
-
-// What is answered for a group that was written, with the counts grown.
-fn written(n: usize, applied: Applied, stats: CorrectionStats) -> Filed
-    requires { Adds stats applied.stats }
-    ensures { (result.answer ≡ FiledAnswer.Corrected n applied.pairs applied.overlapping applied.stats) × (result.stats ≡ plus stats applied.stats) }
-{
-    let added = applied.stats;
-    Filed {
-        answer: FiledAnswer::Corrected {
-            records: n,
-            pairs: applied.pairs,
-            overlapping: applied.overlapping,
-            growth: added,
-        },
-        stats: stats.plus(added),
-    }
 }
 
 // A raw filed group: every pair is judged before any byte is written.
 fn correct_raw(
     filed: &[u8],
-    begins: &[usize],
-    n: usize,
-    p: usize,
-    strategies: u8,
+    frames: Frames<'_>,
+    t: Trailer,
     out: &mut [u8],
-    stats: CorrectionStats,
-) -> Filed
-    requires { FramesEnd filed.now begins.now n × (p ≡ begin_of filed.now n) × (length filed.now ≡ p + 50) × (full stats ≡ false) }
-    ensures { ended result.answer out.new result.stats ≡ on_raw filed.now out.old stats p strategies }
+) -> Result<FiledAnswer, Refusal>
+    requires { Before frames filed.now }
+    ensures { ((g : CorrectionStats) → ended_by result out.new g ≡ on_raw filed.now out.old g (begin_of filed.now frames.entry.count) t.strategies) × Slight result }
 {
-    let numbered = strategy::by_number(
-        (strategies / 3) as u32,
-        (strategies % 3) as u32,
-        strategy::FULL_CAP as u32,
-    );
-    let Ok(w) = numbered else {
-        return refused(Refusal::Strategy, stats);
-    };
+    let (agreement, disagreement) = t.numbers();
+    let w = strategy::by_number(agreement, disagreement, u32::from(strategy::FULL_CAP))?;
     let mut mate = [0usize; 256];
-    let frames = Frames {
-        bytes: &filed[0..p],
-        begins,
-        count: n,
-    };
     group_mates::find(frames, &mut mate);
-    let v = group_verdicts::judge_all(frames, &mate);
-    match v {
-        Err(r) => refused(r, stats),
-        Ok(()) => {
-            if out.len() < filed.len() {
-                return refused(Refusal::OutputShort, stats);
-            }
-            let applied = write_filed(filed, begins, n, p, &mate, w, out);
-            written(n, applied, stats)
-        }
+    group_verdicts::judge_all(frames, &mate)?;
+    if out.len() < filed.len() {
+        return Err(Refusal::OutputShort);
     }
+    let applied = write_filed(filed, frames, &mate, w, out);
+    Ok(FiledAnswer::Corrected {
+        records: frames.count,
+        pairs: applied.pairs,
+        overlapping: applied.overlapping,
+        growth: applied.stats,
+    })
 }
 
 // A filed group whose n frames were cut: its trailer, and what that asks for.
@@ -232,27 +180,43 @@ fn correct_ended(
     begins: &[usize],
     n: usize,
     out: &mut [u8],
-    stats: CorrectionStats,
-) -> Filed
-    requires { FramesEnd filed.now begins.now n × (full stats ≡ false) }
-    ensures { ended result.answer out.new result.stats ≡ on_ending filed.now out.old stats (Ok n) }
+) -> Result<FiledAnswer, Refusal>
+    requires { FramesEnd filed.now begins.now n }
+    ensures { ((g : CorrectionStats) → ended_by result out.new g ≡ on_ending filed.now out.old g (Ok n)) × Slight result }
 {
     let p = begins[n];
     if filed.len() - p != filed_trailer::SIZE {
-        return refused(Refusal::TrailerMissing, stats);
+        return Err(Refusal::TrailerMissing);
     }
     let t = filed_trailer::read(filed, p);
     if t.wrong(n, p) {
-        return refused(Refusal::TrailerField, stats);
+        return Err(Refusal::TrailerField);
     }
-    if t.state == 1 {
-        let growth = t.growth;
-        return Filed {
-            answer: FiledAnswer::AlreadyDone { records: n, growth },
-            stats,
-        };
+    if t.state == u8::from(State::Corrected) {
+        return Ok(FiledAnswer::AlreadyDone {
+            records: n,
+            growth: t.growth,
+        });
     }
-    correct_raw(filed, begins, n, p, t.strategies, out, stats)
+    let frames = Frames {
+        bytes: &filed[..p],
+        begins,
+        count: n,
+    };
+    correct_raw(filed, frames, t, out)
+}
+
+// A filed group corrected into `out`, where that is asked for and the counts have room for it: what is
+// answered, or why it is refused.
+fn corrected(filed: &[u8], out: &mut [u8], stats: CorrectionStats) -> Result<FiledAnswer, Refusal>
+    ensures { (ended_by result out.new stats ≡ filed_of filed.now out.old stats) × FitsBy result stats }
+{
+    if stats.full() {
+        return Err(Refusal::Count);
+    }
+    let mut begins = [1usize; 257];
+    let n = filed_ending::cut(filed, &mut begins)?;
+    correct_ended(filed, &begins, n, out)
 }
 
 // Corrects a raw filed group into `out` by the strategies of its trailer, and adds to the counts. A group
@@ -260,13 +224,14 @@ fn correct_ended(
 pub fn correct(filed: &[u8], out: &mut [u8], stats: CorrectionStats) -> Filed
     ensures { ended result.answer out.new result.stats ≡ filed_of filed.now out.old stats }
 {
-    if stats.full() {
-        return refused(Refusal::Count, stats);
-    }
-    let mut begins = [1usize; 257];
-    let e = filed_ending::cut(filed, &mut begins);
-    match e {
-        Err(r) => refused(r, stats),
-        Ok(n) => correct_ended(filed, &begins, n, out, stats),
+    match corrected(filed, out, stats) {
+        Ok(answer) => Filed {
+            answer,
+            stats: counted(answer, stats),
+        },
+        Err(why) => Filed {
+            answer: FiledAnswer::Refused(why),
+            stats,
+        },
     }
 }

@@ -1,17 +1,22 @@
 -- One turn of the loop that fills the table of leads.
-use Prim.Native.Nat.{ℕ, suc, ◌+◌, ◌-◌, ◌<◌, ◌≤◌}
-use mathlib.Core.Path.{◌≡◌, sym, ◌∙◌, ap}
-use mathlib.Core.List.{List}
+use Prim.Native.Nat.{ℕ, zero, suc, ◌+◌, ◌-◌, ◌<◌, ◌≤◌}
+use mathlib.Core.Path.{◌≡◌, refl, sym, ◌∙◌, ap}
+use mathlib.Core.List.{List, ◌++◌}
 use mathlib.Core.Logic.{⊎_elim}
 use native.Mathlib.Numerals.{add-one}
 use native.Mathlib.Omega.{arith}
-use lib.ListN.{length, get_or, set, length-set}
-use lib.Seq.{get_or-set_same, get_or-set_other}
+use lib.ListN.{length, get_or, set, take, drop, replicate, length-set, length-replicate, length-append, length-drop, get_or-replicate, get_or-append}
+use lib.Seq.{get_or-set_same, get_or-set_other, length-take-le}
 use Rattle.fields.proofs.Arith.{lt_or_le, eq_or_ne}
 use Rattle.group_mates.specs.Register.{role_at, name_at}
 use Rattle.group_mates.specs.Table.{Mated}
 use Rattle.group_mates.proofs.OnceLaws.{mate_below, mate_inj}
 use Rattle.filed_writing.specs.Lead.{Pairing, Led}
+
+-- a number that is not 1 or more
+pub none_of : (x : ℕ) → (1 ≤ x → ⊥) → x ≡ 0
+none_of zero h = refl
+none_of (suc x) h = absurd (h (omega arith))
 
 -- no two records of a group have one mate
 pub mated_pairing : (s mate : List ℕ) (n : ℕ) → n ≤ 256 → Mated s mate n → Pairing mate n
@@ -21,6 +26,19 @@ mated_pairing s mate n few m = record {
   below = λ i j h e. mate_below (role_at s) (name_at s) n i j (sym (m.mates i h) ∙ e);
   one = λ i k j h g e f. mate_inj (role_at s) (name_at s) n i k j (sym (m.mates i h) ∙ e) (sym (m.mates k g) ∙ f);
 }
+
+-- a table whose first n entries were emptied
+module _ (lead z : List ℕ) (n : ℕ) (fits : n ≤ length lead) (is : z ≡ replicate (length (take n lead)) 0) where
+  empty_long : length z ≡ n
+  empty_long = ap length is ∙ length-replicate {A = ℕ} (length (take n lead)) 0 ∙ length-take-le n lead fits
+
+  pub empty_wide : length (z ++ drop n lead) ≡ length lead
+  empty_wide = omega (arith, length-append z (drop n lead), empty_long, length-drop n lead)
+
+  pub empty_first : (k : ℕ) → k < n → get_or (z ++ drop n lead) k 0 ≡ 0
+  empty_first k h =
+      get_or-append z (drop n lead) 0 k (omega (arith, empty_long)) ∙ ap (λ (x : List ℕ). get_or x k 0) is
+      ∙ get_or-replicate (length (take n lead)) k 0 0 (omega (arith, length-take-le n lead fits))
 
 -- the mates of the first i records are entered
 pub record Leading (mate lead : List ℕ) (n i : ℕ) : Type 0 where

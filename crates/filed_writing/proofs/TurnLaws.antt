@@ -1,15 +1,13 @@
 -- One turn of the loop that writes a group: the bytes at the front, and the numbers of the pairs.
 use Prim.Native.Nat.{ℕ, zero, suc, ◌+◌, ◌*◌, ◌<◌, ◌≤◌}
-use mathlib.Core.Path.{◌≡◌, refl, sym, ◌∙◌, ap}
+use mathlib.Core.Path.{◌≡◌, refl, sym, ◌∙◌}
 use mathlib.Core.List.{List, []}
-use mathlib.Core.Logic.{⊎_elim}
 use native.Mathlib.Numerals.{add-one}
 use native.Mathlib.Omega.{arith}
 use lib.ListN.{length, drop}
-use Rattle.fields.proofs.Arith.{eq_or_ne}
-use Rattle.stats.specs.Counts.{zeroed}
-use Rattle.stats.specs.Room.{Room}
-use Rattle.stats.proofs.CountLaws.{room_less, room_plus, room_adds}
+use Rattle.stats.specs.Counts.{zeroed, plus}
+use Rattle.stats.specs.Room.{Room, AtMost}
+use Rattle.stats.proofs.CountLaws.{counts_as, room_less, room_plus, room_adds}
 use Rattle.strategy.specs.declared.Strategies.{Strategies}
 use Rattle.pair.specs.declared.Answer.{Answer}
 use Rattle.pair.specs.declared.Answer.TheVariants.{NoOverlap, Overlap, Refused}
@@ -23,12 +21,9 @@ use Rattle.group_applying.specs.declared.Applied.{Applied}
 use Rattle.group_applying.specs.Applied.{grown, overlap_count, overlaps_in}
 use Rattle.group_applying.proofs.ApplyLaws.{rest}
 use Rattle.group_applying.proofs.CallLaws.{call_most}
-use Rattle.filed_writing.specs.declared.Turn.{Turn}
-use Rattle.filed_writing.specs.declared.Held.{Held}
-use Rattle.filed_writing.specs.Turn.{Turned, Wrote, together, Fitting}
+use Rattle.filed_writing.specs.Turn.{Wrote, together, Fitting}
 use Rattle.filed_writing.specs.Written.{corrected, Front, applied, added_by, WrittenTo}
 use Rattle.filed_writing.proofs.FrontLaws.{behind_later}
-use Rattle.filed_writing.proofs.ChosenLaws.{mateless}
 
 -- ---- the numbers a of what is written, with the pairs l still to write
 pub record Counting (w : Strategies) (s : List ℕ) (n : ℕ) (l : List (ℕ × ℕ)) (a : Applied) : Type 0 where
@@ -56,15 +51,28 @@ overlap_one (NoOverlap r) = omega arith
 overlap_one Overlap = omega arith
 overlap_one (Refused r) = omega arith
 
--- what a record with a mate adds fits, and leaves the pairs l
+-- what a record adds fits, and leaves the pairs l
 pub record Step (w : Strategies) (s : List ℕ) (n : ℕ) (l : List (ℕ × ℕ)) (a one : Applied) : Type 0 where
   pub fits : Fitting a one
   pub next : Counting w s n l (together a one)
 
-step : (w : Strategies) (s : List ℕ) (n k : ℕ) (l : List (ℕ × ℕ)) (a : Applied) (m : ℕ) → Counting w s n (mate_cons k m l) a → (m ≡ 0 → ⊥) → Step w s n l a (added_by w s k m)
+-- no pair adds nothing
+together_none : (a : Applied) → together a (applied 0 0 zeroed) ≡ a
+together_none a =
+    let p : a.pairs + 0 ≡ a.pairs = omega arith in
+    let o : a.overlapping + 0 ≡ a.overlapping = omega arith in
+    let g = counts_as (plus a.stats zeroed) a.stats (omega arith) (omega arith) (omega arith) (omega arith) in
+    λ i. applied (p i) (o i) (g i)
+
+step : (w : Strategies) (s : List ℕ) (n k : ℕ) (l : List (ℕ × ℕ)) (a : Applied) (m : ℕ) → Counting w s n (mate_cons k m l) a → Step w s n l a (added_by w s k m)
 unfolding grown overlaps_in
-step w s n k l a zero c some = absurd (some refl)
-step w s n k l a (suc j) c some =
+step w s n k l a zero c =
+    let none : AtMost (131072 * length l) zeroed = record { overlapping = omega arith; agreeing = omega arith; disagreeing = omega arith; corrected = omega arith } in
+    record {
+      fits = record { pairs = omega (arith, c.few); overlapping = omega (arith, c.few, c.fewer); stats = room_adds a.stats zeroed (131072 * length l) c.room none };
+      next = rw (together_none a) c;
+    }
+step w s n k l a (suc j) c =
     let g = a.stats in
     let most = call_most w (record_of s k) (record_of s j) in
     let few = overlap_one (pair_at w s k j).answer in
@@ -94,36 +102,26 @@ pub filling_start : (w : Strategies) (s : List ℕ) (n : ℕ) (out : List ℕ) �
 unfolding begin_of
 filling_start w s n out = record { front = refl; behind = refl; size = refl }
 
--- ---- the turn of record k, which is written from out to out': its numbers, and its bytes
-module _ (w : Strategies) (s : List ℕ) (n k : ℕ) (below : k < n) (t : Turn) (now : t.index ≡ k) (h : Turned s n t)
-    (out out' : List ℕ) (g : Held) (d : Wrote w s n t out out' g) where
+-- ---- record k is written from out to out', and adds r
+module _ (w : Strategies) (s : List ℕ) (n k : ℕ) (below : k < n) (out out' : List ℕ) (r : Applied) (d : Wrote w s n k out out' r) where
   module _ (a : Applied) (c : Counting w s n (rest s n k) a) where
-    -- a first
-    turn_step : t.first ≡ t.index + 1 → Step w s n (rest s n (k + 1)) a g.added
-    turn_step e =
-        let e' : t.first ≡ suc t.index = e ∙ add-one t.index in
-        let m : mates_of s n k ≡ suc (h.pair t.index e').0 = sym (ap (mates_of s n) now) ∙ (h.pair t.index e').4 in
-        let q : g.added ≡ added_by w s k (mates_of s n k) = rw now at (d.adds e') in
-        rw q (step w s n k (rest s n (k + 1)) a (mates_of s n k) (rw (pairs_turn (mates_of s n) n k (mates_of s n k) below refl) at c) (λ z. omega arith))
+    turn_step : Step w s n (rest s n (k + 1)) a r
+    turn_step =
+        rw d.adds (step w s n k (rest s n (k + 1)) a (mates_of s n k) (rw (pairs_turn (mates_of s n) n k (mates_of s n k) below refl) at c))
 
-    pub turn_fits : t.first ≡ t.index + 1 → Fitting a g.added
-    turn_fits e = (turn_step e).fits
+    pub turn_fits : Fitting a r
+    turn_fits = turn_step.fits
 
-    pub turn_counted : (r : Applied) → (t.first ≡ t.index + 1 → r ≡ together a g.added) → ((t.first ≡ t.index + 1 → ⊥) → r ≡ a) → Counting w s n (rest s n (k + 1)) r
-    turn_counted r pair none =
-        ⊎_elim (λ (e : t.first ≡ t.index + 1). rw (pair e) (turn_step e).next)
-        (λ (f : t.first ≡ t.index + 1 → ⊥).
-        let z : 0 ≡ mates_of s n k = sym (mateless t h (λ e. f (e ∙ sym (add-one t.index)))) ∙ ap (mates_of s n) now in
-        rw (none f) (rw (pairs_turn (mates_of s n) n k 0 below z) at c))
-        (eq_or_ne t.first (t.index + 1))
+    pub turn_counted : (b : Applied) → b ≡ together a r → Counting w s n (rest s n (k + 1)) b
+    turn_counted b e = rw e turn_step.next
 
   pub turn_filled : (out₀ : List ℕ) → Filling w s n k out₀ out → length out' ≡ length out → Filling w s n (k + 1) out₀ out'
   unfolding end_of
   turn_filled out₀ a l =
-      let e : end_of s t.index ≡ begin_of s (k + 1) = rw (now, add-one) refl in
+      let e : end_of s k ≡ begin_of s (k + 1) = rw add-one refl in
       record {
         front = rw (sym e) d.front;
-        behind = rw (sym e) (d.behind ∙ behind_later out out₀ (begin_of s k) (end_of s t.index) (omega (arith, e, begin_mono s k (k + 1) (omega arith))) a.behind);
+        behind = rw (sym e) (d.behind ∙ behind_later out out₀ (begin_of s k) (end_of s k) (omega (arith, e, begin_mono s k (k + 1) (omega arith))) a.behind);
         size = l ∙ a.size;
       }
 

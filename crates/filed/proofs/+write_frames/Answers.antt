@@ -1,6 +1,7 @@
 use native.Mathlib.Omega.{arith}
-use Rattle.filed.proofs.ShortLaws.{tabled}
+use Rattle.filed.proofs.ShortLaws.{short_enough}
 use Rattle.filed.proofs.+write_frames.Goals as goal
 
-pub small-requires : goal.small-requires
-small-requires t c = tabled c.args.s.now c.args.begins.now c.args.n c.requires.0 (omega arith)
+pub write_in-requires : goal.write_in-requires
+write_in-requires t c =
+    (c.requires.0, c.requires.1, omega arith, c.requires.2, short_enough _ _ _ c.requires.0 _ (omega arith), c.requires.3, omega arith)

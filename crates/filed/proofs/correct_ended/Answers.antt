@@ -1,57 +1,37 @@
 -- `filed::correct_ended` meets its contract. Assumes nothing.
-use mathlib.Core.Path.{sym, ◌∙◌}
+use mathlib.Core.Path.{sym, ◌∙◌, ap}
+use Prim.Native.Nat.{ℕ}
+use lib.ListN.{take}
 use native.Mathlib.Omega.{arith}
-use lib.ListN.{get_or}
 use Rattle.filed.proofs.WriteLaws.{table_end}
 use Rattle.filed.proofs.StageLaws.{not_fifty, wrong_field, known, raw}
 use Rattle.filed.proofs.correct_ended.Goals as goal
 
 pub overflow_sub-filed : goal.overflow_sub-filed
-overflow_sub-filed c =
-    let args = c.args in
-    omega (arith, table_end args.filed.now args.begins.now args.n c.requires.0, c.requires.0.left)
+overflow_sub-filed c = omega (arith, table_end _ _ _ c.requires, c.requires.left)
 
 pub returns-then-filed-p-ne-SIZE : goal.returns-then-filed-p-ne-SIZE
 returns-then-filed-p-ne-SIZE c =
-    let args = c.args in
-    let filed = args.filed.now in
-    let begins = args.begins.now in
-    not_fifty filed args.out.now args.stats args.n (get_or begins args.n 0) (table_end filed begins args.n c.requires.0)
-    (λ z. c.if-filed-p-ne-SIZE.true (omega arith)) c.refused.result c.refused.ensures
+    ((λ g. not_fifty _ _ g _ _ (table_end _ _ _ c.requires) (λ z. c.if-filed-p-ne-SIZE.true (omega arith))), tt)
 
 pub returns-then-wrong : goal.returns-then-wrong
 returns-then-wrong c =
-    let args = c.args in
-    let filed = args.filed.now in
-    let begins = args.begins.now in
-    let ends = table_end filed begins args.n c.requires.0 in
-    wrong_field filed args.out.now args.stats args.n (get_or begins args.n 0) ends (omega (arith, ends, c.requires.0.left))
-    c.read-t.result c.read-t.ensures (sym c.wrong.ensures ∙ c.if-wrong.true) c.refused-then-wrong.result
-    c.refused-then-wrong.ensures
+    let ends = table_end _ _ _ c.requires in
+    ((λ g. wrong_field _ _ g _ _ ends (omega (arith, ends, c.requires.left)) _ c.read-t.ensures (sym c.wrong.ensures ∙ c.if-wrong.true)), tt)
 
-pub returns-then-t-eq1 : goal.returns-then-t-eq1
-returns-then-t-eq1 c =
-    let args = c.args in
-    let filed = args.filed.now in
-    let begins = args.begins.now in
-    let ends = table_end filed begins args.n c.requires.0 in
-    known filed args.out.now args.stats args.n (get_or begins args.n 0) ends (omega (arith, ends, c.requires.0.left))
-    c.read-t.result c.read-t.ensures (sym c.wrong.ensures ∙ c.if-wrong.false) c.if-t-eq1.true
+pub returns-then-t-from : goal.returns-then-t-from
+returns-then-t-from c =
+    let ends = table_end _ _ _ c.requires in
+    ((λ g. known _ _ g _ _ ends (omega (arith, ends, c.requires.left)) _ c.read-t.ensures (sym c.wrong.ensures ∙ c.if-wrong.false) (c.if-t-from.true ∙ c.from.ensures)), tt)
 
 pub correct_raw-requires : goal.correct_raw-requires
 correct_raw-requires c =
-    let args = c.args in
-    let filed = args.filed.now in
-    let begins = args.begins.now in
-    let ends = table_end filed begins args.n c.requires.0 in
-    (c.requires.0, ends, omega (arith, ends, c.requires.0.left), c.requires.1)
+    let ends = table_end _ _ _ c.requires in
+    record { ends = c.requires; bytes = ap (λ (k : ℕ). take k c.args.filed.now) ends; size = omega (arith, ends, c.requires.left) }
 
 pub returns : goal.returns
 returns c =
-    let args = c.args in
-    let filed = args.filed.now in
-    let begins = args.begins.now in
-    let ends = table_end filed begins args.n c.requires.0 in
-    raw filed args.out.now args.stats args.n (get_or begins args.n 0) ends (omega (arith, ends, c.requires.0.left))
-    c.read-t.result c.read-t.ensures (sym c.wrong.ensures ∙ c.if-wrong.false) c.if-t-eq1.false _
-    c.correct_raw.ensures
+    let ends = table_end _ _ _ c.requires in (
+      (λ g. raw _ _ g _ _ ends (omega (arith, ends, c.requires.left)) _ c.read-t.ensures (sym c.wrong.ensures ∙ c.if-wrong.false) (λ e. c.if-t-from.false (e ∙ sym c.from.ensures)) _ (rw (sym ends) at (c.correct_raw.ensures.0 g))),
+      c.correct_raw.ensures.1,
+    )

@@ -1,67 +1,35 @@
 -- `filed::correct_raw` meets its contract. Assumes nothing.
 use mathlib.Core.Path.{sym, ◌∙◌}
 use native.Mathlib.Omega.{arith}
-use lib.ListN.{take}
-use Rattle.filed.proofs.WriteLaws.{front_part, front_placed, front_whole, growth_adds}
+use Rattle.std.proofs.lemmas.Result.{err_from_is_err_and}
+use Rattle.filed.proofs.WriteLaws.{front_whole, growth_most}
 use Rattle.filed.proofs.StageLaws.{no_numbers, pair_refused, output_short, all_written}
-use borrow.Author.Rules.{rules}
 use Rattle.filed.proofs.correct_raw.Goals as goal
 
-pub returns-in_default : goal.returns-in_default
-returns-in_default c =
-    let args = c.args in
-    no_numbers args.filed.now args.out.now args.stats args.p args.strategies c.by_number-numbered.result
-    c.by_number-numbered.ensures _ c.in_default.is c.refused.result c.refused.ensures
+pub returns-in_err-w : goal.returns-in_err-w
+returns-in_err-w c =
+    let p = err_from_is_err_and c.from_residual.result c.from_residual.ensures.1 in
+    let numbered = rw (c.numbers-agreement.ensures.0, c.numbers-agreement.ensures.1, c.from.ensures) at c.by_number.ensures in
+    rw (p.1, p.2) ((λ g. no_numbers _ _ g _ _ _ numbered _ c.in_err-w.was), tt)
 
-pub find-requires : goal.find-requires
-find-requires c =
-    let args = c.args in
-    (front_placed args.filed.now args.begins.now args.n args.p c.requires.0 c.requires.1, search rules)
-
-pub judge_all-v-requires : goal.judge_all-v-requires
-judge_all-v-requires c =
-    let args = c.args in
-    (front_placed args.filed.now args.begins.now args.n args.p c.requires.0 c.requires.1, c.find.ensures)
+pub returns-in_err-judge_all : goal.returns-in_err-judge_all
+returns-in_err-judge_all c =
+    let p = err_from_is_err_and c.from_residual-in_err-judge_all.result c.from_residual-in_err-judge_all.ensures.1 in
+    let numbered = rw (c.numbers-agreement.ensures.0, c.numbers-agreement.ensures.1, c.from.ensures) at c.by_number.ensures in
+    rw (p.1, p.2) ((λ g. pair_refused _ _ g _ _ _ numbered _ c.in_ok-w.was _ (front_whole _ _ c.requires) _ (rw c.requires.bytes at c.judge_all.ensures) _ c.in_err-judge_all.was), tt)
 
 pub returns-then-out-filed : goal.returns-then-out-filed
 returns-then-out-filed c =
-    let args = c.args in
-    let filed = args.filed.now in
-    output_short filed args.out.now args.stats args.p args.strategies c.by_number-numbered.result
-    c.by_number-numbered.ensures _ c.in-Ok.is args.n
-    (front_whole filed args.begins.now args.n args.p c.requires.0 c.requires.1) c.judge_all-v.result
-    (rw (front_part filed args.p) at c.judge_all-v.ensures) c.in-Ok.is
-    c.if-out-filed.true c.refused-then-out-filed.result c.refused-then-out-filed.ensures
+    let numbered = rw (c.numbers-agreement.ensures.0, c.numbers-agreement.ensures.1, c.from.ensures) at c.by_number.ensures in
+    ((λ g. output_short _ _ g _ _ _ numbered _ c.in_ok-w.was _ (front_whole _ _ c.requires) _ (rw c.requires.bytes at c.judge_all.ensures) c.in_ok-judge_all.was c.if-out-filed.true), tt)
 
 pub write_filed-applied-requires : goal.write_filed-applied-requires
-write_filed-applied-requires c =
-    let args = c.args in
-    let front = front_part args.filed.now args.p in
-    (c.requires.0, c.requires.1, rw front at c.find.ensures, c.requires.2, omega arith, sym (rw front at c.judge_all-v.ensures) ∙ c.in-Ok.is)
+write_filed-applied-requires c = (c.requires, c.find.ensures, omega arith, sym c.judge_all.ensures ∙ c.in_ok-judge_all.was)
 
-pub written-requires : goal.written-requires
-written-requires c =
-    let args = c.args in
-    growth_adds _ (take args.p args.filed.now) args.n args.stats _ c.requires.0.placed.few c.requires.3
-    c.write_filed-applied.ensures.stats
-
-pub returns-in-Refused : goal.returns-in-Refused
-returns-in-Refused c =
-    let args = c.args in
-    let filed = args.filed.now in
-    pair_refused filed args.out.now args.stats args.p args.strategies c.by_number-numbered.result
-    c.by_number-numbered.ensures _ c.in-Ok.is args.n
-    (front_whole filed args.begins.now args.n args.p c.requires.0 c.requires.1) c.judge_all-v.result
-    (rw (front_part filed args.p) at c.judge_all-v.ensures) _ c.in-Refused.is c.refused-in-Refused.result
-    c.refused-in-Refused.ensures
-
-pub returns-else-out-filed : goal.returns-else-out-filed
-returns-else-out-filed c =
-    let args = c.args in
-    let filed = args.filed.now in
-    all_written filed args.out.now args.stats args.p args.strategies c.by_number-numbered.result
-    c.by_number-numbered.ensures _ c.in-Ok.is args.n
-    (front_whole filed args.begins.now args.n args.p c.requires.0 c.requires.1) c.judge_all-v.result
-    (rw (front_part filed args.p) at c.judge_all-v.ensures) c.in-Ok.is
-    (omega (arith, c.if-out-filed.false)) c.write_filed-applied.result _ c.write_filed-applied.ensures
-    c.written.result c.written.ensures
+pub returns : goal.returns
+returns c =
+    let numbered = rw (c.numbers-agreement.ensures.0, c.numbers-agreement.ensures.1, c.from.ensures) at c.by_number.ensures in
+    let to = c.write_filed-applied.ensures in (
+      (λ g. all_written _ _ g _ _ _ numbered _ c.in_ok-w.was _ (front_whole _ _ c.requires) _ (rw c.requires.bytes at c.judge_all.ensures) c.in_ok-judge_all.was c.if-out-filed.false _ _ to),
+      growth_most _ _ _ _ c.requires.ends.placed.few to.stats,
+    )

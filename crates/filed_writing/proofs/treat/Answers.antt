@@ -7,6 +7,4 @@ treat_judged-met-requires c = (c.requires, zero_room c.new.result c.new.ensures)
 
 pub returns : goal.returns
 returns c =
-    let args = c.args in
-    treats args.w args.first.now args.second.now c.requires c.new.result c.new.ensures c.treat_judged-met.result
-    _ _ c.treat_judged-met.ensures c.overlaps-overlapping.result c.overlaps-overlapping.ensures
+    treats c.args.w c.args.first.now c.args.second.now c.requires c.new.result c.new.ensures c.treat_judged-met.result _ _ c.treat_judged-met.ensures c.of_pair.result c.of_pair.ensures
