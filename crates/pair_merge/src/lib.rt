@@ -38,6 +38,7 @@ pub fn merge(
     let mut b = cigar::begin(second, w.second, q);
     let mut met = 0;
     let mut h = g;
+    // Kept: the cursor that is behind goes on, by so many bases as its run and the other cursor let it; no iterator does.
     while a.left != 0 {
         if b.left == 0 {
             return Met {

@@ -138,6 +138,7 @@ pub fn treat(
 {
     let mut t = 0;
     let mut corrected: u64 = 0;
+    // Kept: t says both where the next block begins and what is left behind them; a `for` would need n / 32 and n % 32.
     while 32 <= n - t {
         corrected += treat_block::<true>(w, first, p + t, second, q + t, 32);
         t += 32;
