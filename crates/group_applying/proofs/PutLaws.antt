@@ -27,10 +27,7 @@ pub overlap_met : (r : Reason) (n : ℕ) → overlap_of n ≡ overlap_count (met
 overlap_met r zero = refl
 overlap_met r (suc n) = refl
 
-pub some_overlap : (n : ℕ) → (n ≡ 0 → ⊥) → 1 ≡ overlap_of n
-some_overlap zero h = absurd (h refl)
-some_overlap (suc n) h = refl
-
+-- and adds one at most
 pub overlap_small : (n : ℕ) → overlap_of n ≤ 1
 overlap_small zero = omega arith
 overlap_small (suc n) = omega arith
