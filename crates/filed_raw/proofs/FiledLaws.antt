@@ -1,6 +1,6 @@
 -- The filing by its cases; and the trailer that is made fits its frames.
 use Rattle.std.specs.Prelude.{Result, Ok, Err}
-use Prim.Native.Nat.{ℕ, ◌+◌, ◌*◌, ◌<◌, ◌≤◌}
+use Prim.Native.Nat.{ℕ, zero, suc, ◌+◌, ◌*◌, ◌<◌, ◌≤◌}
 use mathlib.Core.Path.{◌≡◌, refl, sym, ap, ◌∙◌}
 use mathlib.Core.Bool.{Bool, true, false, cond}
 use mathlib.Core.List.{List, ◌++◌}
@@ -15,7 +15,7 @@ use Rattle.refusal.specs.declared.Refusal.TheVariants.{Strategy, OutputShort}
 use Rattle.fields.proofs.Arith.{lt_or_le}
 use Rattle.stats.specs.Counts.{zeroed}
 use Rattle.strategy.specs.declared.Strategies.{Strategies}
-use Rattle.strategy.specs.Number.{numbered_of}
+use Rattle.strategy.specs.Number.{agreement_of, disagreement_of, named, numbered_of}
 use Rattle.strategy.proofs.NumberLaws.{first_none, second_none}
 use Rattle.group_frames.specs.Frame.{begin_of, frames_of}
 use Rattle.group_frames.specs.Table.{Filled}
@@ -31,11 +31,24 @@ use Rattle.filed_raw.specs.Filing.{Filed, filing, on_frames, on_numbered, file_o
 refused_are : (r : Refusal) (w : Strategies) → Err r ≡ Ok w → ⊥
 refused_are r w e = let z : ◌≡◌ {A = ℕ} 0 1 = cc in omega arith
 
+-- a number above 2 stands for no strategy
+agreement_above : (a : ℕ) → 2 < a → Err Strategy ≡ named (agreement_of a)
+agreement_above zero h = absurd (omega (arith, h))
+agreement_above (suc zero) h = absurd (omega (arith, h))
+agreement_above (suc (suc zero)) h = absurd (omega (arith, h))
+agreement_above (suc (suc (suc n))) h = refl
+
+disagreement_above : (d : ℕ) → 2 < d → Err Strategy ≡ named (disagreement_of d)
+disagreement_above zero h = absurd (omega (arith, h))
+disagreement_above (suc zero) h = absurd (omega (arith, h))
+disagreement_above (suc (suc zero)) h = absurd (omega (arith, h))
+disagreement_above (suc (suc (suc n))) h = refl
+
 -- numbers that stand for strategies are at most 2
 pub are_small : (a d : ℕ) (numbered : Result Strategies Refusal) → numbered ≡ numbered_of a d 93 → (w : Strategies) → numbered ≡ Ok w → (a ≤ 2) × (d ≤ 2)
 are_small a d numbered is w e = (
-  ⊎_elim (λ (l : 2 < a). absurd (refused_are Strategy w (first_none a d 93 l ∙ sym is ∙ e))) (λ (h : a ≤ 2). h) (lt_or_le 2 a),
-  ⊎_elim (λ (l : 2 < d). absurd (refused_are Strategy w (second_none a d 93 l ∙ sym is ∙ e))) (λ (h : d ≤ 2). h) (lt_or_le 2 d),
+  ⊎_elim (λ (l : 2 < a). absurd (refused_are Strategy w (first_none a d 93 Strategy (agreement_above a l) ∙ sym is ∙ e))) (λ (h : a ≤ 2). h) (lt_or_le 2 a),
+  ⊎_elim (λ (l : 2 < d). absurd (refused_are Strategy w (second_none a d 93 Strategy (disagreement_above d l) ∙ sym is ∙ e))) (λ (h : d ≤ 2). h) (lt_or_le 2 d),
 )
 
 -- a table that is filled is of at most 256 records
