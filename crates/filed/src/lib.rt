@@ -99,6 +99,7 @@ fn write_in<const ROOM: usize>(
 // The frames of a raw group corrected into `out`, front to back: in the small rooms, and where a record is
 // too long for them, again in the large ones. Since it calls itself, it is compiled by itself and the rooms are
 // not taken into it: a group of small records does not hold the 128 KiB of the large ones on its stack.
+// Kept: so `large` is a flag of one function and not two functions or a closure.
 fn write_frames(
     frames: Frames<'_>,
     mate: &[usize],

@@ -19,6 +19,8 @@ fn ends_at(s: &[u8], at: usize) -> Result<bool, Refusal>
 
 // Finds where the frames end, each record checked. Where they do, `begins` holds afterwards where
 // each frame begins, and behind these where the zero size stands.
+// Kept: no one function with `group_frames::cut`: they test for an end otherwise, and answer by two definitions
+// (`frames_of`, `ending_of`), so a shared loop would take its test as a closure and say all of this twice.
 pub fn cut(s: &[u8], begins: &mut [usize]) -> Result<usize, Refusal>
     requires { 257 ≤ length begins.old }
     ensures { (result ≡ ending_of s.now) × Found s.now begins.new result }

@@ -50,7 +50,8 @@ impl From<State> for u8 {
 // The fields as they stand; the strategies are one number of two. The distance is from the trailer's
 // start back to the first frame.
 // Kept: `state` is the byte, which `State::try_from` reads: `read` can't fail on a byte that names no state, and
-// `wrong_parts`, `stamped_reads`, `made_fits`, `MarkedDone` and `MarkedRaw` say what the byte is.
+// `wrong_parts`, `stamped_reads`, `made_fits`, `MarkedDone` and `MarkedRaw` say what the byte is. `strategies` is one
+// byte of the format too, which `joined` makes and `numbers` parts.
 #[derive(Clone, Copy)]
 pub struct Trailer {
     pub state: u8,

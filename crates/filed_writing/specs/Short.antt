@@ -5,10 +5,3 @@ use Rattle.group_applying.specs.Within.{start_in, end_in}
 -- by the table, none of the n records has more than m bytes
 abbrev pub Short : List ℕ → ℕ → ℕ → Type 0
 Short begins n m = (k : ℕ) → k < n → end_in begins k - start_in begins k ≤ m
-
--- the table has where each of n records lies
-pub record Tabled (begins : List ℕ) (n : ℕ) : Type 0 where
-  pub few : n ≤ 256
-  pub wide : 257 ≤ length begins
-  pub order : (k : ℕ) → k < n → start_in begins k ≤ end_in begins k
-  pub low : (k : ℕ) → k < n → start_in begins k < 18446744073709551616

@@ -21,6 +21,8 @@ use stats::CorrectionStats;
 use strategy::Strategies;
 
 // Enters, for each mate, one more than the index of the record that it is the mate of; 0 for the others.
+// Kept: `lead` holds numbers and no Option, since it is lent with `mate`, which `group_mates::find` fills so: half
+// as many bytes are emptied for each group.
 fn enter_leads(mate: &[usize], n: usize, lead: &mut [usize])
     requires { Pairing mate.now n × (256 ≤ length lead.old) }
     ensures { Led mate.now lead.new n }
@@ -183,6 +185,8 @@ impl Rooms<'_> {
 
 // Writes the records of a group, each pair corrected, from the start of `out` on; all were judged, and none refused.
 // `lead` is room for a table, `left` and `right` each for any one record.
+// Kept: `lead`, `left` and `right` come as slices and not as `Rooms`: the caller makes them, of one of two sizes,
+// and `lead` in another function than the rooms, which keeps these apart on the stack (docs/DECISIONS.md).
 pub fn write_all(
     frames: Frames<'_>,
     mate: &[usize],
