@@ -19,8 +19,8 @@ loop-k-preserved c =
     let args = c.args in
     let next : 16 * c.loop-k.k + 16 ≡ 16 * (c.loop-k.k + 1) = omega arith in
     let turn = scan_turn args.first.now args.second.now args.y args.z args.i.0 args.j.0 _ _ _ _ refl refl refl refl
-          (16 * c.loop-k.k) _ _ _ c.loop-k.invariant c.word-a.ensures c.word-b.ensures c.first_unwell-same.ensures
-          c.if-same-lt16.false in
+    (16 * c.loop-k.k) _ _ _ c.loop-k.invariant c.word-a.ensures c.word-b.ensures c.first_unwell-same.ensures
+    c.if-same-lt16.false in
     rw next at turn
 
 pub returns : goal.returns
