@@ -8,10 +8,8 @@ ghost use Rattle.pair_reason.specs.Reason.{reason_call_of};
 ghost use Rattle.overlap_c.specs.FiledCall.{filed_returned, filed_call_of, trailer_returned, trailer_call_of};
 
 use filed::FiledAnswer;
+use pair_code::COUNTS;
 use refusal::Refusal;
-
-// How many bytes the four counts take.
-const COUNTS: usize = 32;
 
 // The pair call over two records, two strategy numbers, the cap and the four counts as 32 bytes. It answers
 // 0 for no overlap, 1 for overlap, else 1000 + 100 * place + number; it writes only for 1. The header calls it
@@ -48,25 +46,14 @@ pub extern "C" fn overlap_filed_call(filed: &[u8], out: &mut [u8], counts: &mut 
     if counts.len() != COUNTS {
         return Refusal::CountsSlice.code();
     }
-    let stats = stats::counts_at(counts, 0);
-    let called = filed::correct(filed, out, stats);
-    let answer = called.answer;
-    match answer {
-        FiledAnswer::Corrected {
-            records: _,
-            pairs: _,
-            overlapping: _,
-            growth: _,
-        } => {
-            let after = called.stats;
-            stats::put_counts(counts, 0, after);
+    let called = filed::correct(filed, out, stats::counts_at(counts, 0));
+    match called.answer {
+        FiledAnswer::Corrected { .. } => {
+            stats::put_counts(counts, 0, called.stats);
             0
         }
-        FiledAnswer::AlreadyDone {
-            records: _,
-            growth: _,
-        } => 1,
-        FiledAnswer::Refused(r) => r.code(),
+        FiledAnswer::AlreadyDone { .. } => 1,
+        FiledAnswer::Refused(refusal) => refusal.code(),
     }
 }
 
@@ -81,9 +68,8 @@ pub extern "C" fn overlap_trailer_call(
 ) -> u32
     ensures { trailer_returned result trailer.new ≡ trailer_call_of frames.now agreement disagreement trailer.old }
 {
-    let filing = filed_raw::file(frames, agreement, disagreement, trailer);
-    match filing {
+    match filed_raw::file(frames, agreement, disagreement, trailer) {
         Ok(_) => 0,
-        Err(r) => r.code(),
+        Err(refusal) => refusal.code(),
     }
 }

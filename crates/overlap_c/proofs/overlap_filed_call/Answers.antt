@@ -11,20 +11,20 @@ returns-then-counts-ne-COUNTS c =
 pub returns-in-Corrected : goal.returns-in-Corrected
 returns-in-Corrected c =
     let args = c.args in
-    filed_corrected args.filed.now args.out.now args.counts.now c.if-counts-ne-COUNTS.false c.counts_at-stats.result
-    c.counts_at-stats.ensures (ended c.correct-called.result.answer _ c.correct-called.result.stats)
+    filed_corrected args.filed.now args.out.now args.counts.now c.if-counts-ne-COUNTS.false c.counts_at.result
+    c.counts_at.ensures (ended c.correct-called.result.answer _ c.correct-called.result.stats)
     c.correct-called.ensures _ _ _ _ _ c.in-Corrected.is c.put_counts.ensures
 
 pub returns-in-AlreadyDone : goal.returns-in-AlreadyDone
 returns-in-AlreadyDone c =
     let args = c.args in
-    filed_known args.filed.now args.out.now args.counts.now c.if-counts-ne-COUNTS.false c.counts_at-stats.result
-    c.counts_at-stats.ensures (ended c.correct-called.result.answer _ c.correct-called.result.stats)
+    filed_known args.filed.now args.out.now args.counts.now c.if-counts-ne-COUNTS.false c.counts_at.result
+    c.counts_at.ensures (ended c.correct-called.result.answer _ c.correct-called.result.stats)
     c.correct-called.ensures _ _ c.in-AlreadyDone.is
 
 pub returns-in-Refused : goal.returns-in-Refused
 returns-in-Refused c =
     let args = c.args in
-    filed_refused args.filed.now args.out.now args.counts.now c.if-counts-ne-COUNTS.false c.counts_at-stats.result
-    c.counts_at-stats.ensures (ended c.correct-called.result.answer _ c.correct-called.result.stats)
+    filed_refused args.filed.now args.out.now args.counts.now c.if-counts-ne-COUNTS.false c.counts_at.result
+    c.counts_at.ensures (ended c.correct-called.result.answer _ c.correct-called.result.stats)
     c.correct-called.ensures _ _ c.in-Refused.is c.code-in-Refused.ensures
