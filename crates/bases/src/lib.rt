@@ -18,6 +18,8 @@ pub struct Seen {
 }
 
 // Base i and its quality.
+// Kept: that the layout lies in the record, and the base in its read, is asked in clauses here and below: docs/PROVED.md
+// names these functions with what they ask.
 pub fn get(s: &[u8], y: Layout, i: ReadOffset) -> Seen
     requires { Lies y (length s.now) × (i.0 < y.count) }
     ensures { SeenAt s.now y i.0 result }

@@ -41,6 +41,8 @@ pub struct Extent {
 }
 
 // How much of the read an operation uses.
+// Kept: an operation is a usize and the clause says that it has 32 bits: as a u32 it would be widened at each of its uses,
+// since lengths are added to offsets and positions.
 fn read_len(op: usize) -> usize
     requires { op < 4294967296 }
     ensures { (result ≡ read_len op) × (result ≤ op / 16) }
@@ -76,6 +78,7 @@ fn unknown(op: usize) -> bool
 }
 
 // The operation at a byte: its length times 16, and its code.
+// Kept: the clause is that of `fields::u32_at`, which docs/PROVED.md names.
 fn operation_at(s: &[u8], at: usize) -> usize
     requires { at + 4 ≤ length s.now }
     ensures { (result ≡ unsigned 4 s.now at) × (result < 4294967296) }
@@ -84,6 +87,7 @@ fn operation_at(s: &[u8], at: usize) -> usize
 }
 
 // How much the operations between two bytes use, front to back; or the index of the first with an unknown code, from 0.
+// Kept: the end of the operations is a place in the record, as `begin` and `pass` ask for it, which docs/PROVED.md names.
 fn walk_operations(s: &[u8], from: usize, end: usize) -> Result<Totals, u16>
     requires { (from ≤ end) × (end ≤ length s.now) × (length s.now ≤ 65536) }
     ensures { result ≡ walk_of (operations from end s.now) }

@@ -26,6 +26,7 @@ use strategy::Strategies;
 
 // What the call answers: a raw group was corrected, with so many records, pairs and overlapping pairs and
 // this growth of the counts; it was corrected before, with the counts of its trailer; or why it is refused.
+// Kept: the refusal inside the answer is the form that the interface is agreed in.
 #[derive(Clone, Copy)]
 pub enum FiledAnswer {
     Corrected {
@@ -70,6 +71,7 @@ const SMALL: usize = 1024;
 const LARGE: usize = 65536;
 
 // Whether the small rooms take every record, each of which is a size of 4 bytes behind where its frame begins.
+// Kept: a table of fixed length and how many of its entries are in use, since no memory is taken for a group.
 fn small(begins: &[usize], n: usize) -> bool
     requires { n < length begins.now }
     ensures { IsTrue result ↔ Short begins.now n 1024 }
@@ -81,6 +83,8 @@ fn small(begins: &[usize], n: usize) -> bool
 }
 
 // The frames of a raw group corrected into `out`, front to back, in rooms for records of so many bytes.
+// Kept: what is known of frames, mates and rooms stands in clauses here and below, as `filed_writing::write_all` asks for
+// it, which docs/PROVED.md names; and `mate` and `lead` are tables of fixed length, since no memory is taken for a group.
 fn write_in<const ROOM: usize>(
     frames: Frames<'_>,
     mate: &[usize],
@@ -132,6 +136,7 @@ fn put_trailer(filed: &[u8], p: usize, growth: CorrectionStats, out: &mut [u8])
 }
 
 // A raw filed group corrected into `out`: its frames, and then the trailer.
+// Kept: `mate` is a table of fixed length, since no memory is taken for a group.
 fn write_filed(
     filed: &[u8],
     frames: Frames<'_>,
@@ -160,6 +165,7 @@ fn correct_raw(
 {
     let (agreement, disagreement) = t.numbers();
     let w = strategy::by_number(agreement, disagreement, u32::from(strategy::FULL_CAP))?;
+    // Kept: a table of fixed length, since no memory is taken for a group.
     let mut mate = [0usize; 256];
     group_mates::find(frames, &mut mate);
     group_verdicts::judge_all(frames, &mate)?;
@@ -176,6 +182,7 @@ fn correct_raw(
 }
 
 // A filed group whose n frames were cut: its trailer, and what that asks for.
+// Kept: the table and the count come by themselves and not as `Frames`: behind the frames stands the trailer, which is read here.
 fn correct_ended(
     filed: &[u8],
     begins: &[usize],
@@ -215,6 +222,7 @@ fn corrected(filed: &[u8], out: &mut [u8], stats: CorrectionStats) -> Result<Fil
     if stats.full() {
         return Err(Refusal::Count);
     }
+    // Kept: a table of fixed length, since no memory is taken for a group.
     let mut begins = [1usize; 257];
     let n = filed_ending::cut(filed, &mut begins)?;
     correct_ended(filed, &begins, n, out)

@@ -17,6 +17,7 @@ pub fn file(
     ensures { filing result out.new ≡ file_of agreement disagreement frames.now out.old }
 {
     strategy::by_number(agreement, disagreement, u32::from(strategy::FULL_CAP))?;
+    // Kept: a table of fixed length, since no memory is taken for a group.
     let mut begins = [0usize; 257];
     let n = group_frames::cut(frames, &mut begins)?;
     if out.len() < filed_trailer::SIZE {

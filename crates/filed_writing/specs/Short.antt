@@ -1,5 +1,5 @@
 -- How long the records of a group are.
-use Rattle.std.specs.Prelude.{ℕ, ◌-◌, ◌<◌, ◌≤◌, List, length}
+use Rattle.std.specs.Prelude.{ℕ, ◌-◌, ◌<◌, ◌≤◌, List}
 use Rattle.group_applying.specs.Within.{start_in, end_in}
 
 -- by the table, none of the n records has more than m bytes

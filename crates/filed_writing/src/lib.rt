@@ -82,6 +82,7 @@ struct Mates {
 }
 
 // The pair that record k is in, by the tables of mates and leads.
+// Kept: two tables of fixed length, since no memory is taken for a group; `group_mates::find` fills the one so.
 fn pair_of(mate: &[usize], lead: &[usize], k: usize) -> Option<Mates>
     requires { (k < 256) × (256 ≤ length mate.now) × (256 ≤ length lead.now) }
     ensures { (s : List ℕ) (n : ℕ) → k < n → Mated s mate.now n → Led mate.now lead.now n → AllPassed s n → Turned s n k result }

@@ -13,6 +13,7 @@ use strategy::Strategies;
 
 // What a group call answers: how many records, pairs and overlapping pairs there are, or why it is
 // refused. A refusal changes nothing.
+// Kept: the refusal inside the answer is the form that the interface is agreed in.
 #[derive(Clone, Copy)]
 pub enum GroupAnswer {
     Done {
@@ -43,6 +44,7 @@ fn group_framed(
     requires { full stats ≡ false }
     ensures { ended_by result buf.new stats ≡ framed_of w buf.old stats }
 {
+    // Kept: a table of fixed length, since no memory is taken for a group.
     let mut begins = [1usize; 257];
     let count = group_frames::cut(buf, &mut begins)?;
     let frames = Frames {
@@ -50,6 +52,7 @@ fn group_framed(
         begins: &begins,
         count,
     };
+    // Kept: as above.
     let mut mate = [1usize; 256];
     group_mates::find(frames, &mut mate);
     group_verdicts::judge_all(frames, &mate)?;

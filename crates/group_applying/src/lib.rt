@@ -59,6 +59,7 @@ struct Place {
 }
 
 // Where record k lies, by the table of frames.
+// Kept: the table comes without its bytes, which are lent to be written where its places are used.
 fn place_of(begins: &[usize], k: usize) -> Place
     requires { (k + 1 < length begins.now) × (start_in begins.now k ≤ end_in begins.now k) }
     ensures { (result.start ≡ start_in begins.now k) × (result.end ≡ end_in begins.now k) }
@@ -88,6 +89,7 @@ fn apply_parts(buf: &mut [u8], room: &mut [u8], a: Place, b: Place, w: Strategie
 }
 
 // Records i and j of a group, which were judged as a pair, corrected.
+// Kept: the table stands beside `buf` and not in a `Frames`, which lends the bytes to read.
 fn apply_pair(
     buf: &mut [u8],
     room: &mut [u8],

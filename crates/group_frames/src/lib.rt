@@ -32,12 +32,14 @@ pub fn frame_at(s: &[u8], begin: usize, k: usize) -> Result<usize, Refusal>
 
 // Cuts a group into its records, each checked, and answers how many there are. Afterwards `begins` holds where
 // each frame begins, and behind these where the last one ends.
+// Kept: the table is the caller's and of fixed length, since no memory is taken for a group.
 pub fn cut(s: &[u8], begins: &mut [usize]) -> Result<usize, Refusal>
     requires { 257 ≤ length begins.old }
     ensures { (result ≡ frames_of s.now) × Filled s.now begins.new result }
 {
     let mut begin: usize = 0;
     begins[0] = 0;
+    // Kept: k is the number of the record too, and where a frame begins isn't known before the one in front of it is read.
     for k in 0..MOST {
         if s.len() <= begin {
             return Ok(k);

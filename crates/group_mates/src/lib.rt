@@ -58,6 +58,8 @@ fn role_of(r: &[u8]) -> u64
 }
 
 // The key of a sound record.
+// Kept: that a record is sound is a clause here, in `same_name` and for a pair that is judged: records are parts of a group,
+// whose table says it of all of them (`FrameTable`).
 fn key_of(r: &[u8]) -> u64
     requires { Sound r.now (layout_of r.now) }
     ensures { result ≡ key_in r.now }
@@ -75,6 +77,8 @@ fn same_name(x: &[u8], y: &[u8]) -> bool
 }
 
 // Enters the key of each record.
+// Kept: an index for `key`, as nothing is known of an entry that an `iter_mut` wrote; and a table of fixed length, since no
+// memory is taken for a group.
 fn enter_keys(frames: Frames, key: &mut [u64])
     requires { Tabled frames × (256 ≤ length key.old) }
     ensures { Keyed frames.entry.bytes.now key.new frames.entry.count }
@@ -92,6 +96,7 @@ fn chain_of(d: u64) -> usize
 }
 
 // Empties the chains that the records are in.
+// Kept: an index for `head`, by which chains are found; and tables of fixed length, since no memory is taken for a group.
 fn clear(key: &[u64], n: usize, head: &mut [usize])
     requires { (n ≤ 256) × (256 ≤ length key.now) × (256 ≤ length head.old) }
     ensures { (k : ℕ) → k < n → get_or head.new (chain_of (get_or key.now k 0)) 0 ≡ 0 }
@@ -102,6 +107,7 @@ fn clear(key: &[u64], n: usize, head: &mut [usize])
 }
 
 // Links the records into their chains, each before the one that was there.
+// Kept: k is what `head` holds; and tables of fixed length, since no memory is taken for a group.
 fn link(key: &[u64], n: usize, head: &mut [usize], next: &mut [usize])
     requires { (n ≤ 256) × (256 ≤ length key.now) × (256 ≤ length head.old) × (256 ≤ length next.old) }
     ensures { Chained key.now head.new next.new n }
@@ -132,6 +138,7 @@ struct Search<'a> {
 impl<'a> Search<'a> {
     // Whether record j is of the role and of the name of record i. Names are compared only where the keys
     // are equal.
+    // Kept: indices below the count, as the clauses of `Frames::record` have it, which docs/PROVED.md names.
     fn fits_at(&self, role: Role, i: usize, j: usize) -> bool
         requires { (i < self.now.frames.count) × (j < self.now.frames.count) }
         ensures { result ≡ fits (role_at self.now.frames.bytes.now) (name_at self.now.frames.bytes.now) (role_number role) (name_at self.now.frames.bytes.now i) j }
@@ -145,6 +152,7 @@ impl<'a> Search<'a> {
 
     // The record that has the registration of the role and the name of record i, a first. A first is looked
     // for down to record i, which is one, and is not compared with itself.
+    // Kept: a `while` along a chain, which no range or iterator yields.
     fn holder_of(&self, role: Role, i: usize) -> Option<usize>
         requires { (i < self.now.frames.count) × (role_at self.now.frames.bytes.now i ≡ 1) }
         ensures { (one_more result ≡ holder (role_at self.now.frames.bytes.now) (name_at self.now.frames.bytes.now) (role_number role) (name_at self.now.frames.bytes.now i) self.now.frames.count) × (one_more result ≤ self.now.frames.count) }
@@ -179,6 +187,7 @@ impl<'a> Search<'a> {
     }
 
     // Enters the mate of each record.
+    // Kept: an index for `mate`, as nothing is known of an entry that an `iter_mut` wrote; and a table of fixed length.
     fn enter_mates(&self, mate: &mut [usize])
         requires { 256 ≤ length mate.old }
         ensures { Mated self.now.frames.bytes.now mate.new self.now.frames.count }

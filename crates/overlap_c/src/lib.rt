@@ -14,6 +14,7 @@ use refusal::Refusal;
 // The pair call over two records, two strategy numbers, the cap and the four counts as 32 bytes. It answers
 // 0 for no overlap, 1 for overlap, else 1000 + 100 * place + number; it writes only for 1. The header calls it
 // `overlap_call`: its own name carries the version since which it takes these, so that no older host links it.
+// Kept: the clause of `pair_code::call`, since C calls this by its own name; crate overlap_c_c has it once more.
 #[unsafe(no_mangle)]
 pub extern "C" fn overlap_call_2(
     first: &mut [u8],
@@ -30,6 +31,7 @@ pub extern "C" fn overlap_call_2(
 
 // Why two records do not overlap, which are only read. It answers 0 where they overlap, 1 to 5 for the
 // reason, else 1000 + 100 * place + number, with 10,000 times the index of an operation of unknown code.
+// Kept: as above, of `pair_reason::call`.
 #[unsafe(no_mangle)]
 pub extern "C" fn overlap_reason_call(first: &[u8], second: &[u8]) -> u32
     ensures { result ≡ reason_call_of first.now second.now }

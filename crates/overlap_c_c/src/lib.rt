@@ -9,6 +9,7 @@ ghost use Rattle.overlap_c.specs.FiledCall.{filed_returned, filed_call_of, trail
 
 // The pair call over two records, two strategy numbers, the cap and the four counts as 32 bytes. The header calls it
 // `overlap_call`: its own name carries the version since which it takes these, so that no older host links it.
+// Kept: each call once more under its own name, since C links an archive, and a library is none.
 #[unsafe(no_mangle)]
 pub extern "C" fn overlap_call_2(
     first: &mut [u8],
@@ -24,6 +25,7 @@ pub extern "C" fn overlap_call_2(
 }
 
 // Why two records do not overlap, which are only read.
+// Kept: as above.
 #[unsafe(no_mangle)]
 pub extern "C" fn overlap_reason_call(first: &[u8], second: &[u8]) -> u32
     ensures { result ≡ reason_call_of first.now second.now }

@@ -27,6 +27,7 @@ fn run(rt: &HostRuntime) -> Result<(), Failure> {
     ))
 }
 
+// Kept: overlap has a `main` like this one, for its own words.
 fn main(rt: HostRuntime) {
     let mut errors = rt.stderr();
     let usage =

@@ -12,6 +12,7 @@ use strategy::Strategies;
 
 // What a pair call answers: no overlap, for a reason; overlap; or a refusal. A refusal and "no overlap"
 // change nothing.
+// Kept: the refusal inside the answer is the form that the interface is agreed in, and `Called` has the counts by value.
 #[derive(Clone, Copy)]
 pub enum Answer {
     NoOverlap(Reason),
@@ -20,6 +21,7 @@ pub enum Answer {
 }
 
 // The answer, and the counts after the call.
+// Kept: counts by value beside the answer are the form that the interface is agreed in.
 #[derive(Clone, Copy)]
 pub struct Called {
     pub answer: Answer,

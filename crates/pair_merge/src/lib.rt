@@ -20,6 +20,7 @@ pub struct Met {
 }
 
 // All shared positions of two records whose alignments start at the positions p and q, treated.
+// Kept: what the checks said of both records stands in clauses, as docs/PROVED.md names this function with what it asks.
 pub fn merge(
     w: Job,
     first: &mut [u8],

@@ -23,6 +23,7 @@ fn narrow(y: Layout, z: Layout) -> bool
 
 // n shared positions in a row, from base i of the first record and base j of the second on: as many as agree at
 // once, then the one behind them by itself, and on. Where a record is too short for that, all one by one.
+// Kept: the parameters and clauses of `positions::treat_row`, whose contract this is word for word.
 pub fn treat_row(
     job: Job,
     first: &mut [u8],

@@ -100,6 +100,7 @@ pub fn counts_at(s: &[u8], at: usize) -> CorrectionStats
 }
 
 // Stores the four counts from `at` on. All other bytes stay.
+// Kept: 32 bytes from `at` on, as `counts_at` asks for them, which docs/PROVED.md names.
 pub fn put_counts(s: &mut [u8], at: usize, g: CorrectionStats)
     requires { at + 32 ≤ length s.old }
     ensures { s.new ≡ with_counts s.old at g }

@@ -197,6 +197,7 @@ impl TryFrom<u32> for AgreementStrategy {
 }
 
 // 0 is Consensus, 1 MaskBoth, 2 MaskLowerQual; no other number stands for a strategy.
+// Kept: beside the one of AgreementStrategy: each is the table of its own enum.
 impl TryFrom<u32> for DisagreementStrategy {
     type Error = Refusal;
 

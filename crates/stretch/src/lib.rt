@@ -1,7 +1,7 @@
 // Stretches: at how many positions in a row two records agree, 16 packed bases compared as one word.
 #![tactic(auto)]
 
-ghost use Rattle.std.specs.Prelude.{◌≡◌, ◌+◌, ◌*◌, ◌<◌, ◌≤◌, min, length};
+ghost use Rattle.std.specs.Prelude.{◌+◌, ◌*◌, ◌<◌, ◌≤◌, min, length};
 ghost use Rattle.fields.specs.Sound.{Lies};
 ghost use Rattle.stretch.specs.Halves.{Holds, Marks, FirstByte, First, Stretch};
 ghost use Rattle.stretch.specs.Alike.{Agreeing};
@@ -61,6 +61,7 @@ fn first_unwell(a: u64, b: u64) -> usize
 
 // How many of n positions agree before the first that doesn't: from base i of the first record and base j of the
 // second on, both bases are the same and not N.
+// Kept: i, j and n by themselves, as `Agreeing` has them.
 pub fn agreeing(
     first: &[u8],
     second: &[u8],

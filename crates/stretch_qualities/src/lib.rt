@@ -21,6 +21,8 @@ const LIVE: [[u8; 32]; 2] = [[0; 32], [1; 32]];
 
 // The 32 qualities from p of the first record and from q of the second on, of which the last n are treated and the
 // others stay. Where the block is WHOLE, n is 32, and no lane asks whether it is treated.
+// Kept: t names one lane of four slices, where a zip would have pairs of pairs; and the clauses stand in three functions,
+// each of which is this one, at one more step.
 fn fill<const WHOLE: bool>(
     w: Strategies,
     first: &[u8],
@@ -64,6 +66,7 @@ fn agreeing(w: Strategies, m: AgreementStrategy) -> Strategies
 }
 
 // `fill`, by a call for each strategy, so that the compiler makes a loop for each and no loop asks which it is.
+// Kept: the same call in each arm: a type for each strategy, with a trait and its law, says no more than three arms.
 fn filled<const WHOLE: bool>(
     w: Strategies,
     first: &[u8],

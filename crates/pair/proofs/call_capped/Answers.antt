@@ -1,5 +1,5 @@
 -- `pair::call_capped` meets its contract. Assumes nothing.
-use mathlib.Core.Path.{◌≡◌, sym, ap, ◌∙◌}
+use mathlib.Core.Path.{sym, ap, ◌∙◌}
 use native.Mathlib.Omega.{arith}
 use Rattle.stats.proofs.CountLaws.{room_less, full_room}
 use Rattle.positions.specs.Step.{State, state}
