@@ -30,14 +30,22 @@ for path, name in re.findall(r'`([\w/]+\.antt)#([^`]+)`', page):
     if text is None or not re.search(declared, text):
         faults.append(f'{path}#{name}: no such definition or theorem')
 
-for crate, name in re.findall(r'`(\w+)::(\w+)`', page):
+def within(owner):
+    """The sources that a function's name says: those of a crate, or all impls of a type."""
+    if os.path.isdir(f'crates/{owner}'):
+        return sources(owner)
+    every = '\n'.join(filter(None, map(sources, sorted(os.listdir('crates')))))
+    return '\n'.join(re.findall(r'(?ms)^impl\b[^\n{]*\b' + owner + r'\b[^\n{]* \{$.*?^\}$', every))
+
+
+for owner, name in re.findall(r'`(\w+)::(\w+)`', page):
     checked += 1
-    text = sources(crate)
-    found = text and re.search(r'fn ' + name + r'\b(.*?)\n *\{\n', text, re.S)
+    text = within(owner)
+    found = text and re.search(r'fn ' + name + r'\b(.*?)\n? *\{\n', text, re.S)
     if not found:
-        faults.append(f'{crate}::{name}: no such function')
-    elif 'ensures' not in found.group(1):
-        faults.append(f'{crate}::{name}: promises nothing')
+        faults.append(f'{owner}::{name}: no such function')
+    elif 'ensures' not in found.group(1) and f'ghost {name}_gives' not in text:
+        faults.append(f'{owner}::{name}: promises nothing')
 
 for crate, name in re.findall(r'`(\w+)/must-fail/(\w+)`', page):
     checked += 1
