@@ -109,7 +109,8 @@ def check_reasons():
     table = [int(n) for n in re.findall(r'(?m)^ANSWER\(REASON, (\d+), "no overlap: ', read('hosts/c/answers.def'))]
     check([n for n, _ in defined] == [1, 2, 3, 4, 5] and defined == told, f'include/overlap.h defines {defined} and tells {told}')
     names = [name.title().replace('_', '') for _, name in defined]
-    proved = re.findall(r'Reason::(\w+) => (\d+),', read('crates/pair_judgement/src/lib.rt'))
+    reasons = re.search(r'(?s)pub enum Reason \{(.*?)\n\}', read('crates/pair_judgement/src/lib.rt')).group(1)
+    proved = re.findall(r'(?m)^    (\w+) = (\d+),$', reasons)
     check(variants == names, f'hosts/rust has the reasons {variants}')
     check(proved == list(zip(names, '12345')), f'crates/pair_judgement has the reasons {proved}')
     check(table == [n for n, _ in defined] == list(REASONS), f'docs/REFUSALS.md has the reasons {list(REASONS)}, the table {table}')
