@@ -41,8 +41,8 @@ pub struct Extent {
 }
 
 // How much of the read an operation uses.
-// Kept: an operation is a usize and the clause says that it has 32 bits: as a u32 it would be widened at each of its uses,
-// since lengths are added to offsets and positions.
+// Kept: a usize whose clause says that it has 32 bits: a u32 would be cast where its length is added (`read_len`,
+// `ref_len`, `join`).
 fn read_len(op: usize) -> usize
     requires { op < 4294967296 }
     ensures { (result ≡ read_len op) × (result ≤ op / 16) }
@@ -161,7 +161,7 @@ fn skip(c: Cursor, op: usize) -> Cursor
 
 // The cursor with a base at hand, unless there is none left. Aligned operations side by side, as in
 // 3=1X1=, are one run.
-// Kept: a `while`, as the byte that it counts is a part of the cursor that is answered; a `for` would count it a second time.
+// Kept: a `while`, as the byte that it counts is a part of the cursor that is answered; a `for` would count it twice.
 fn settle(s: &[u8], end: usize, c: Cursor) -> Cursor
     requires { (end ≤ length s.now) × Stands (take end s.now) c }
     ensures { Settled (take end s.now) c result }

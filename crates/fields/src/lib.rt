@@ -27,6 +27,7 @@ fn bytes_at<const W: usize>(s: &[u8], at: usize) -> [u8; W]
 }
 
 // The number that the two bytes from `at` on hold, least byte first.
+// Kept: six functions of a line over the library's, one a width and a sign: docs/PROVED.md names each with its promise.
 pub fn u16_at(s: &[u8], at: usize) -> u16
     requires { at + 2 ≤ length s.now }
     ensures { result ≡ unsigned 2 s.now at }
@@ -138,10 +139,9 @@ impl Flags {
     }
 }
 
-// Kept: each read below asks for the 32 bytes itself: the plain reads under the thin view are a form that is decided on, and
-// `flags_of`, `start_of` and `same_reference` are public by name with this one clause.
-
 // The id of the reference that the record is placed on; negative where it has none.
+// Kept: each read from here on asks for the 32 bytes itself, as docs/PROVED.md names them with this clause, and as the paper has
+// plain reads under the thin view.
 pub fn ref_id(s: &[u8]) -> i32
     requires { 32 ≤ length s.now }
     ensures { result ≡ (header s.now).ref_id }
@@ -206,7 +206,7 @@ pub fn position_of(p: i32) -> Option<u32>
 }
 
 // Whether two reference ids are the same one. Two ids of -1 are.
-// Kept: public, and its clause says so of ids alone, as `equal_same_id` does; `same_reference` says it of records.
+// Kept: public, and promises this of ids alone, of which `same_id_equal` (docs/PROVED.md) says what it is.
 pub fn same_id(a: i32, b: i32) -> bool
     ensures { result ≡ same_id a b }
 {

@@ -1,4 +1,5 @@
-// Where the frames of a filed group end: behind them stands a trailer that begins with four zero bytes, where a size would stand.
+// Where the frames of a filed group end: behind them stands a trailer that begins with four zero bytes, where a size
+// would stand.
 #![tactic(auto)]
 
 ghost use Rattle.std.specs.Prelude.{◌≡◌, ◌≤◌, length};

@@ -13,7 +13,7 @@ use strategy::Strategies;
 
 // What a group call answers: how many records, pairs and overlapping pairs there are, or why it is
 // refused. A refusal changes nothing.
-// Kept: the refusal inside the answer is the form that the interface is agreed in.
+// Kept: the refusal stands in the answer, which the paper names as the form of this call (docs/DECISIONS.md, Forms).
 #[derive(Clone, Copy)]
 pub enum GroupAnswer {
     Done {
@@ -25,8 +25,7 @@ pub enum GroupAnswer {
 }
 
 // The answer, and the counts after the call.
-// Kept: the refusal inside the answer and the counts by value beside it are the form that the interface is
-// agreed in, for this call as for the pair call.
+// Kept: counts by value beside the answer, which the paper names as the form (docs/DECISIONS.md, Forms).
 #[derive(Clone, Copy)]
 pub struct Grouped {
     pub answer: GroupAnswer,

@@ -44,6 +44,7 @@ pub fn digest(x: &[u8]) -> u64
 }
 
 // Whether two names have the same bytes.
+// Kept: public by this name, which docs/PROVED.md has; what it does is the library's `==`.
 pub fn same(x: &[u8], y: &[u8]) -> bool
     ensures { result ≡ same_bytes x.now y.now }
 {

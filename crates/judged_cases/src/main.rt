@@ -10,6 +10,7 @@ use std::{fmt, io};
 use strategy::{AgreementStrategy, DisagreementStrategy, Strategies};
 
 // Both strategies Consensus.
+// Kept: lent_cases names this too; a crate for the one value would say no less.
 const CONSENSUS: Strategies = Strategies {
     agreement: AgreementStrategy::Consensus,
     disagreement: DisagreementStrategy::Consensus,

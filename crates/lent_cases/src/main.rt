@@ -23,6 +23,7 @@ const LENT: CorrectionStats = CorrectionStats {
 };
 
 // Both strategies Consensus.
+// Kept: judged_cases names this too; a crate for the one value would say no less.
 const CONSENSUS: Strategies = Strategies {
     agreement: AgreementStrategy::Consensus,
     disagreement: DisagreementStrategy::Consensus,

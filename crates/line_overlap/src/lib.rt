@@ -12,6 +12,7 @@ use refusal::Refusal;
 use stats::CorrectionStats;
 
 // Stands for a digit that is missing; it names no strategy.
+// Kept: a number for none, as the definition `number_at` has it, and as the group call takes numbers.
 const NO_STRATEGY: u32 = 3;
 
 // The number that the digit at byte k stands for; one that names no strategy where there is none.

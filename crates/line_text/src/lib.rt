@@ -20,7 +20,7 @@ pub fn put_text(out: &mut [u8], at: usize, text: &[u8]) -> usize
 }
 
 // Puts a blank and the decimal digits of a number.
-// Kept: `write!` would say nothing of the bytes, where `spaced` names each.
+// Kept: `write!` into a slice says nothing of the bytes, as `Write` for `&mut [u8]` names no contents; `spaced` names each.
 pub fn put_number(out: &mut [u8], at: usize, n: u64) -> usize
     requires { at + 21 ≤ length out.old }
     ensures { Put out.old at (spaced n) out.new result × (result ≤ at + 21) }
@@ -54,7 +54,7 @@ fn put_line(out: &mut [u8], word: &[u8], numbers: &[u64]) -> usize
 }
 
 // The line of a group that is accepted, at the start of `out`.
-// Kept: that a line fits its room of 256 bytes is said by each of the three lines: it is what the program lends.
+// Kept: a clause and no array type, as docs/PROVED.md names the three lines with what they ask, and an array asks more.
 pub fn put_done(
     out: &mut [u8],
     records: usize,

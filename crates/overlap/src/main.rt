@@ -8,7 +8,8 @@ use std::io;
 type Failure = (&'static [u8], io::Error);
 
 // Reads, answers and writes.
-// Kept: overlap_filed has a `run` like this one; one for both would take the rooms, both sentences and the step, and save no line here.
+// Kept: overlap_filed has a `run` like this one; one for both would take the rooms, both sentences and the step,
+// and save no line here.
 fn run(rt: &HostRuntime) -> Result<(), Failure> {
     // room for one byte more than the longest input
     let mut input = [0u8; 65537];

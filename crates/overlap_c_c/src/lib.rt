@@ -34,6 +34,7 @@ pub extern "C" fn overlap_reason_call(first: &[u8], second: &[u8]) -> u32
 }
 
 // The call on a filed group, and the four counts as 32 bytes.
+// Kept: as above.
 #[unsafe(no_mangle)]
 pub extern "C" fn overlap_filed_call(filed: &[u8], out: &mut [u8], counts: &mut [u8]) -> u32
     ensures { filed_returned result out.new counts.new ≡ filed_call_of filed.now out.old counts.old }
@@ -42,6 +43,7 @@ pub extern "C" fn overlap_filed_call(filed: &[u8], out: &mut [u8], counts: &mut 
 }
 
 // The raw trailer of framed records, made in the first 50 bytes of `trailer`.
+// Kept: as above.
 #[unsafe(no_mangle)]
 pub extern "C" fn overlap_trailer_call(
     frames: &[u8],

@@ -12,7 +12,7 @@ use strategy::Strategies;
 
 // What a pair call answers: no overlap, for a reason; overlap; or a refusal. A refusal and "no overlap"
 // change nothing.
-// Kept: the refusal inside the answer is the form that the interface is agreed in, and `Called` has the counts by value.
+// Kept: the refusal stands in the answer, which the paper names as the form of this call (docs/DECISIONS.md, Forms).
 #[derive(Clone, Copy)]
 pub enum Answer {
     NoOverlap(Reason),
@@ -21,7 +21,7 @@ pub enum Answer {
 }
 
 // The answer, and the counts after the call.
-// Kept: counts by value beside the answer are the form that the interface is agreed in.
+// Kept: counts by value beside the answer, which the paper names as the form (docs/DECISIONS.md, Forms).
 #[derive(Clone, Copy)]
 pub struct Called {
     pub answer: Answer,

@@ -41,7 +41,7 @@ pub fn treat_one(
 
 // n shared positions in a row, from base i of the first record and base j of the second on. Bases are
 // written only where they differ, and the counts of agreements are added up beside the others.
-// Kept: i, j and n by themselves, as `row i j n` has them in the clause.
+// Kept: i, j and n by themselves, as docs/PROVED.md names this function with what it asks of each.
 pub fn treat_row(
     job: Job,
     first: &mut [u8],

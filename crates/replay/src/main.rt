@@ -33,6 +33,7 @@ impl Head {
 }
 
 // Reads a number of the list.
+// Kept: group_cases has one like it; a crate for the two lines would say no less.
 fn read_number<R: Read>(list: &mut R) -> io::Result<u32> {
     let mut number = [0; 4];
     list.read_exact(&mut number)?;
@@ -40,6 +41,7 @@ fn read_number<R: Read>(list: &mut R) -> io::Result<u32> {
 }
 
 // Rooms for the two records and the counts of a case, each for the longest record of the list.
+// Kept: rooms of fixed length, and the sizes in `Head`, since no memory is taken.
 #[derive(Clone, Copy)]
 struct Rooms {
     first: [u8; 66000],
@@ -66,26 +68,20 @@ impl Rooms {
         first && second && counts
     }
 
-    // What the exported call answers on the fronts; 0 where a front is not there.
-    fn call(&mut self, head: &Head) -> u32 {
-        let Some(first) = self.first.get_mut(..head.first) else {
-            return 0;
-        };
-        let Some(second) = self.second.get_mut(..head.second) else {
-            return 0;
-        };
-        let Some(counts) = self.counts.get_mut(..head.counts) else {
-            return 0;
-        };
+    // What the exported call answers on the fronts, where they are there.
+    fn call(&mut self, head: &Head) -> Option<u32> {
+        let first = self.first.get_mut(..head.first)?;
+        let second = self.second.get_mut(..head.second)?;
+        let counts = self.counts.get_mut(..head.counts)?;
         let cap = u32::from(strategy::FULL_CAP);
-        overlap_c::overlap_call_2(
+        Some(overlap_c::overlap_call_2(
             first,
             second,
             head.agreement,
             head.disagreement,
             cap,
             counts,
-        )
+        ))
     }
 
     // Whether the fronts hold the same bytes as those of other rooms.
@@ -110,7 +106,7 @@ fn agrees<R: Read>(list: &mut R, head: &Head, rooms: &mut Rooms, stored: &mut Ro
     let given = rooms.read(list, head);
     *stored = *rooms;
     let left = head.answer != 1 || stored.read(list, head);
-    let answered = rooms.call(head) == head.answer;
+    let answered = rooms.call(head) == Some(head.answer);
     given && left && answered && rooms.agrees(stored, head)
 }
 

@@ -99,6 +99,8 @@ fn requalified(x: u8, a: u8, b: u8, p: u8, q: u8) -> Treated
 }
 
 // Two equal called bases x, of qualities a and b. The cap binds Consensus alone.
+// Kept: the paper's rule as it is read; `lane::agreed` has it without a branch for the loops, and `agreed_rule` says that
+// they are one.
 fn process_agreement(w: Strategies, x: u8, a: u8, b: u8) -> Treated
     ensures { result ≡ agreed w x a b }
 {
@@ -197,13 +199,13 @@ impl TryFrom<u32> for AgreementStrategy {
 }
 
 // 0 is Consensus, 1 MaskBoth, 2 MaskLowerQual; no other number stands for a strategy.
-// Kept: beside the one of AgreementStrategy: each is the table of its own enum.
 impl TryFrom<u32> for DisagreementStrategy {
     type Error = Refusal;
 
     // What the number stands for, or refusal 10.
     ghost try_from_gives = { λ n r. r ≡ named (disagreement_of n) };
 
+    // Kept: beside the one of AgreementStrategy: each is the table of its own enum.
     fn try_from(number: u32) -> Result<Self, Refusal> {
         match number {
             0 => Ok(DisagreementStrategy::Consensus),

@@ -61,7 +61,7 @@ fn first_unwell(a: u64, b: u64) -> usize
 
 // How many of n positions agree before the first that doesn't: from base i of the first record and base j of the
 // second on, both bases are the same and not N.
-// Kept: i, j and n by themselves, as `Agreeing` has them.
+// Kept: i, j and n by themselves, as docs/PROVED.md names this function with what it asks of each.
 pub fn agreeing(
     first: &[u8],
     second: &[u8],

@@ -95,8 +95,8 @@ fn filled<const WHOLE: bool>(
 }
 
 // 32 qualities, stored from `at` on.
-// Kept: `copy_from_slice` takes the array by reference, so that the block goes through memory, with a test whether it
-// overlaps: 15 instructions more for each block, beside a stepped loop in `stretch` 382 for 75 positions and not 310.
+// Kept: by a loop: `copy_from_slice` puts the array into memory first, 15 instructions more a block (with it, and a stepped
+// loop in `stretch`, a row of 75 positions took 382 instructions and not 310).
 fn store(s: &mut [u8], at: usize, v: [u8; 32])
     requires { at + 32 ≤ length s.old }
     ensures { s.new ≡ sets s.old at v }
@@ -141,7 +141,7 @@ pub fn treat(
 {
     let mut t = 0;
     let mut corrected: u64 = 0;
-    // Kept: t says both where the next block begins and what is left behind them; a `for` would need n / 32 and n % 32.
+    // Kept: t is where the next block begins and, taken from n, what is left: a `for` has two names for that one place.
     while 32 <= n - t {
         corrected += treat_block::<true>(w, first, p + t, second, q + t, 32);
         t += 32;

@@ -8,8 +8,7 @@ ghost use Rattle.view.specs.View.{refused_of, name_of, flags_of, ref_id_of, pos_
 use fields::{FIXED, Flags};
 use refusal::Refusal;
 
-// A record, lent to be read. An enum cannot hold the name, which is a part of the record, so whether
-// the record is refused is a question of its own: ask `refused` first.
+// A record, lent to be read. Whether the record is refused is a question of its own: ask `refused` first.
 #[derive(Clone, Copy)]
 pub struct RecordView<'a> {
     pub bytes: &'a [u8],
