@@ -47,6 +47,7 @@ fn role_by(f: Flags) -> Option<Role>
 }
 
 // The number of the role that a record registers for.
+// Kept: 0 for none, as the definition `key_in` has it.
 fn role_of(r: &[u8]) -> u64
     requires { 32 ≤ length r.now }
     ensures { (result ≡ role_in r.now) × (result < 3) }
@@ -58,8 +59,8 @@ fn role_of(r: &[u8]) -> u64
 }
 
 // The key of a sound record.
-// Kept: that a record is sound is a clause here, in `same_name` and for a pair that is judged: records are parts of a group,
-// whose table says it of all of them (`FrameTable`).
+// Kept: a clause: `Frames::record`, which docs/PROVED.md names, gives plain bytes, and a type around them would be opened
+// again here.
 fn key_of(r: &[u8]) -> u64
     requires { Sound r.now (layout_of r.now) }
     ensures { result ≡ key_in r.now }
@@ -96,13 +97,13 @@ fn chain_of(d: u64) -> usize
 }
 
 // Empties the chains that the records are in.
-// Kept: an index for `head`, by which chains are found; and tables of fixed length, since no memory is taken for a group.
+// Kept: tables of fixed length, since no memory is taken for a group.
 fn clear(key: &[u64], n: usize, head: &mut [usize])
     requires { (n ≤ 256) × (256 ≤ length key.now) × (256 ≤ length head.old) }
     ensures { (k : ℕ) → k < n → get_or head.new (chain_of (get_or key.now k 0)) 0 ≡ 0 }
 {
-    for k in 0..n {
-        head[chain_of(key[k])] = 0;
+    for d in &key[..n] {
+        head[chain_of(*d)] = 0;
     }
 }
 
@@ -122,8 +123,8 @@ fn link(key: &[u64], n: usize, head: &mut [usize], next: &mut [usize])
 
 // The records of a group with the tables by which mates are found: the key of each, the head of each chain, and
 // the next of each record in its chain.
-// Kept: `head` and `next` hold one more than an index, and 0 for none, as `last_in` counts them: a table of Option
-// has two words an entry, and a chain's end would be compared as a pair of them.
+// Kept: numbers, 0 for none, as `mate` has them and `last_in` counts them: Options beside `mate` would say the same in
+// two ways.
 #[derive(Clone, Copy)]
 struct Search<'a> {
     frames: Frames<'a>,
