@@ -124,8 +124,8 @@ pub fn apply_all(
         overlapping: 0,
         stats,
     };
-    for i in 0..n {
-        if let Some(j) = mate[i].checked_sub(1) {
+    for (i, m) in mate[..n].iter().enumerate() {
+        if let Some(j) = m.checked_sub(1) {
             let met = apply_pair(buf, room, begins, i, j, w);
             sum = sum.plus(Applied::of_pair(met));
         }

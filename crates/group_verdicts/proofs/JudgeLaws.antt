@@ -7,6 +7,8 @@ use mathlib.Core.Path.{◌≡◌, refl, sym, ap, ap₂, ◌∙◌}
 use mathlib.Core.List.{List, []}
 use native.Mathlib.Numerals.{add-one}
 use native.Mathlib.Omega.{arith}
+use lib.ListN.{length, get_or, take}
+use lib.Seq.{get_or-take, length-take-le}
 use Rattle.refusal.specs.declared.Refusal.{Refusal}
 use Rattle.fields.specs.declared.Layout.{Layout}
 use Rattle.fields.specs.Layout.{layout_of}
@@ -17,6 +19,7 @@ use Rattle.pair_judgement.specs.Judgement.{on_span, span_in}
 use Rattle.pair_judgement.specs.Where.{where_of, on_where}
 use Rattle.pair_judgement.proofs.JudgeLaws.{judged_as}
 use Rattle.group_mates.specs.Register.{role_at, name_at, mates_of, mate_cons, pairs_from}
+use Rattle.group_mates.specs.Table.{Mated}
 use Rattle.group_mates.proofs.OnceLaws.{mate_below}
 use Rattle.group_verdicts.specs.Judged.{on_verdict, judge_by}
 use Rattle.group_verdicts.specs.Indexed.{of_judged, indexed_of}
@@ -76,6 +79,13 @@ Entry m j = (1 ≤ m) × (j ≡ m - 1)
 pub none_of : (m : ℕ) (r : Option ℕ) → SomeIff r (1 ≤ m) (m - 1) → ((x : ℕ) → r ≡ Some x → ⊥) → m ≡ 0
 none_of m None h k = omega (arith, h)
 none_of m (Some x) h k = absurd (k x refl)
+
+-- ---- the table's first entries, one for each record
+pub front_long : (s mate : List ℕ) (n : ℕ) → n ≤ 256 → Mated s mate n → length (take n mate) ≡ n
+front_long s mate n few m = length-take-le n mate (omega (arith, few, m.wide))
+
+pub front_mate : (s mate : List ℕ) (n i : ℕ) → Mated s mate n → i < n → get_or (take n mate) i 0 ≡ mates_of s n i
+front_mate s mate n i m h = get_or-take n mate i 0 h ∙ m.mates i h
 
 -- a mate is a record of the group
 pub entry_in : (s : List ℕ) (n i m j : ℕ) → m ≡ mates_of s n i → Entry m j → j < n

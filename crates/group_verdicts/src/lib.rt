@@ -39,13 +39,13 @@ fn judge_at(frames: Frames, i: usize, j: usize) -> Result<(), Refusal>
 }
 
 // Every pair judged, in order of the first's index.
-// Kept: i is the number of the record too; and `mate` is a table of fixed length, as `group_mates::find` fills it.
+// Kept: `mate` is a table of fixed length, as `group_mates::find` fills it.
 pub fn judge_all(frames: Frames, mate: &[usize]) -> Result<(), Refusal>
     requires { Tabled frames × Mated frames.bytes.now mate.now frames.count }
     ensures { result ≡ judge_by (indexed_at frames.entry.bytes.now) (pairs_of frames.entry.bytes.now frames.entry.count) }
 {
-    for i in 0..frames.count {
-        if let Some(j) = mate[i].checked_sub(1) {
+    for (i, m) in mate[..frames.count].iter().enumerate() {
+        if let Some(j) = m.checked_sub(1) {
             judge_at(frames, i, j)?;
         }
     }
