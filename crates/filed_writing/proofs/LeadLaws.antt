@@ -6,7 +6,7 @@ use mathlib.Core.Logic.{⊎_elim}
 use native.Mathlib.Numerals.{add-one}
 use native.Mathlib.Omega.{arith}
 use lib.ListN.{length, get_or, set, take, drop, replicate, length-set, length-replicate, length-append, length-drop, get_or-replicate, get_or-append}
-use lib.Seq.{get_or-set_same, get_or-set_other, length-take-le}
+use lib.Seq.{get_or-take, get_or-set_same, get_or-set_other, length-take-le}
 use Rattle.fields.proofs.Arith.{lt_or_le, eq_or_ne}
 use Rattle.group_mates.specs.Register.{role_at, name_at}
 use Rattle.group_mates.specs.Table.{Mated}
@@ -26,6 +26,13 @@ mated_pairing s mate n few m = record {
   below = λ i j h e. mate_below (role_at s) (name_at s) n i j (sym (m.mates i h) ∙ e);
   one = λ i k j h g e f. mate_inj (role_at s) (name_at s) n i k j (sym (m.mates i h) ∙ e) (sym (m.mates k g) ∙ f);
 }
+
+-- the table's first entries, one for each record
+pub front_long : (mate : List ℕ) (n : ℕ) → Pairing mate n → length (take n mate) ≡ n
+front_long mate n p = length-take-le n mate (omega (arith, p.few, p.wide))
+
+pub front_mate : (mate : List ℕ) (n i : ℕ) → Pairing mate n → i < length (take n mate) → get_or (take n mate) i 0 ≡ get_or mate i 0
+front_mate mate n i p h = get_or-take n mate i 0 (omega (arith, h, front_long mate n p))
 
 -- a table whose first n entries were emptied
 module _ (lead z : List ℕ) (n : ℕ) (fits : n ≤ length lead) (is : z ≡ replicate (length (take n lead)) 0) where

@@ -21,15 +21,14 @@ use stats::CorrectionStats;
 use strategy::Strategies;
 
 // Enters, for each mate, one more than the index of the record that it is the mate of; 0 for the others.
-// Kept: `lead` holds numbers and no Option, since it is lent with `mate`, which `group_mates::find` fills so: half
-// as many bytes are emptied for each group.
+// Kept: `lead` holds numbers and no Option: `write_all`, which docs/PROVED.md names, is lent it as such.
 fn enter_leads(mate: &[usize], n: usize, lead: &mut [usize])
     requires { Pairing mate.now n × (256 ≤ length lead.old) }
     ensures { Led mate.now lead.new n }
 {
     lead[..n].fill(0);
-    for i in 0..n {
-        if let Some(last) = mate[i].checked_sub(1) {
+    for (i, m) in mate[..n].iter().enumerate() {
+        if let Some(last) = m.checked_sub(1) {
             lead[last] = i + 1;
         }
     }
@@ -123,14 +122,15 @@ struct Rooms<'a> {
 }
 
 impl Rooms<'_> {
-    // What stands in the room for firsts.
+    // What stands in the room for firsts. A function, since a field `&mut [u8]` of a struct behind `&mut` is read as a whole
+    // slice only so.
     fn left(&self) -> &[u8]
         ensures { result.now ≡ self.now.left.now }
     {
         &*self.left
     }
 
-    // What stands in the room for lasts.
+    // What stands in the room for lasts; a function for the same reason.
     fn right(&self) -> &[u8]
         ensures { result.now ≡ self.now.right.now }
     {
