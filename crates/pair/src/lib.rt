@@ -34,9 +34,9 @@ impl Answer {
         ensures { result ≡ answer_code self }
     {
         match self {
-            Answer::NoOverlap(_) => 0,
-            Answer::Overlap => 1,
-            Answer::Refused(r) => r.code(),
+            Self::NoOverlap(_) => 0,
+            Self::Overlap => 1,
+            Self::Refused(r) => r.code(),
         }
     }
 }
