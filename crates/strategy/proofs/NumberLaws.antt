@@ -1,6 +1,6 @@
 -- A number above 2 stands for no strategy, and one outside of 2 to 93 for no cap.
 use Rattle.std.specs.Prelude.{Ok, Err}
-use Prim.Native.Nat.{ℕ, ◌<◌}
+use Prim.Native.Nat.{ℕ, ◌<◌, ◌≤◌}
 use mathlib.Core.Path.{◌≡◌, refl, ap, ◌∙◌}
 use mathlib.Core.Bool.{Bool, true, false, cond}
 use mathlib.Core.Logic.{◌⊎◌, inl, inr, ⊎_elim}
@@ -20,8 +20,14 @@ no_second none cap = refl
 no_second (some m) cap = refl
 
 -- a cap above the scale is outside
+pub cap_low : (cap : ℕ) → cap < 2 → cap_outside cap ≡ true
+cap_low cap h = rw (lt-ltb cap 2 h)
+
 pub cap_high : (cap : ℕ) → 93 < cap → cap_outside cap ≡ true
 cap_high cap h = rw (le-ltb cap 2 (omega arith), lt-ltb 93 cap h)
+
+pub cap_inside : (cap : ℕ) → 2 ≤ cap → cap ≤ 93 → cap_outside cap ≡ false
+cap_inside cap h k = rw (le-ltb cap 2 h, le-ltb 93 cap k)
 
 -- ---- the numbers, as the code asks them
 -- a number that is answered stands for what it is answered

@@ -221,13 +221,17 @@ impl TryFrom<u32> for DisagreementStrategy {
 pub fn by_number(agreement: u32, disagreement: u32, cap: u32) -> Result<Strategies, Refusal>
     ensures { result ≡ numbered_of agreement disagreement cap }
 {
-    let strategies = Strategies {
-        agreement: AgreementStrategy::try_from(agreement)?,
-        disagreement: DisagreementStrategy::try_from(disagreement)?,
-        cap: u8::try_from(cap).map_err(|_| Refusal::Cap)?,
-    };
-    if strategies.cap_outside() {
+    let agreement = AgreementStrategy::try_from(agreement)?;
+    let disagreement = DisagreementStrategy::try_from(disagreement)?;
+    if cap < u32::from(LEAST_CAP) {
         return Err(Refusal::Cap);
     }
-    Ok(strategies)
+    if u32::from(FULL_CAP) < cap {
+        return Err(Refusal::Cap);
+    }
+    Ok(Strategies {
+        agreement,
+        disagreement,
+        cap: cap as u8,
+    })
 }

@@ -1,43 +1,37 @@
 -- `strategy::by_number` meets its contract. Assumes nothing.
 use Rattle.std.specs.Prelude.{Err}
-use Prim.Native.Nat.{◌<◌}
 use mathlib.Core.Path.{◌≡◌, sym, ◌∙◌}
 use native.Mathlib.Omega.{arith}
 use borrow.Author.Rules.{rules}
-use Rattle.refusal.specs.declared.Refusal.TheVariants.{Cap}
-use Rattle.strategy.proofs.NumberLaws.{first_none, second_none, cap_high, cap_none, both_are}
+use Rattle.strategy.proofs.NumberLaws.{first_none, second_none, cap_low, cap_high, cap_inside, cap_none, both_are}
 use Rattle.strategy.proofs.by_number.Goals as goal
 
-pub returns-in_err-try_from : goal.returns-in_err-try_from
-returns-in_err-try_from c =
+pub returns-in_err-agreement : goal.returns-in_err-agreement
+returns-in_err-agreement c =
     let args = c.args in
-    let e : c.from_residual.result ≡ Err c.in_err-try_from.field-0.0 = search rules in
-    e ∙ first_none args.agreement args.disagreement args.cap _ (sym c.in_err-try_from.was ∙ c.try_from.ensures)
+    let e : c.from_residual.result ≡ Err c.in_err-agreement.field-0.0 = search rules in
+    e ∙ first_none args.agreement args.disagreement args.cap _ (sym c.in_err-agreement.was ∙ c.try_from.ensures)
 
-pub returns-in_err-try_from-2 : goal.returns-in_err-try_from-2
-returns-in_err-try_from-2 c =
+pub returns-in_err-disagreement : goal.returns-in_err-disagreement
+returns-in_err-disagreement c =
     let args = c.args in
-    let e : c.from_residual-in_err-try_from-2.result ≡ Err c.in_err-try_from-2.field-0.0 = search rules in
-    e ∙ second_none args.agreement args.disagreement args.cap _ (sym c.in_err-try_from-2.was ∙ c.try_from-2.ensures)
+    let e : c.from_residual-in_err-disagreement.result ≡ Err c.in_err-disagreement.field-0.0 = search rules in
+    e ∙ second_none args.agreement args.disagreement args.cap _ (sym c.in_err-disagreement.was ∙ c.try_from-2.ensures)
 
-pub returns-in_err-map_err : goal.returns-in_err-map_err
-returns-in_err-map_err c =
+pub returns-then-cap-from : goal.returns-then-cap-from
+returns-then-cap-from c =
     let args = c.args in
-    let e : c.from_residual-in_err-map_err.result ≡ Err Cap = search rules in
-    let h : 93 < args.cap = search (rules, arith) in
-    e ∙ cap_none args.agreement args.disagreement args.cap _ _ (sym c.in_ok-try_from.was ∙ c.try_from.ensures)
-    (sym c.in_ok-try_from-2.was ∙ c.try_from-2.ensures) (cap_high args.cap h)
+    cap_none args.agreement args.disagreement args.cap _ _ (sym c.in_ok-agreement.was ∙ c.try_from.ensures)
+    (sym c.in_ok-disagreement.was ∙ c.try_from-2.ensures) (cap_low args.cap (omega (arith, c.from.ensures)))
 
-pub returns-then-cap_outside : goal.returns-then-cap_outside
-returns-then-cap_outside c =
+pub returns-then-from-cap : goal.returns-then-from-cap
+returns-then-from-cap c =
     let args = c.args in
-    let e : c.in_ok-map_err.field-0 ≡ args.cap = search rules in
-    cap_none args.agreement args.disagreement args.cap _ _ (sym c.in_ok-try_from.was ∙ c.try_from.ensures)
-    (sym c.in_ok-try_from-2.was ∙ c.try_from-2.ensures) (rw e at (sym c.cap_outside.ensures ∙ c.if-cap_outside.true))
+    cap_none args.agreement args.disagreement args.cap _ _ (sym c.in_ok-agreement.was ∙ c.try_from.ensures)
+    (sym c.in_ok-disagreement.was ∙ c.try_from-2.ensures) (cap_high args.cap (omega arith))
 
 pub returns : goal.returns
 returns c =
     let args = c.args in
-    let e : c.in_ok-map_err.field-0 ≡ args.cap = search rules in
-    rw e (both_are args.agreement args.disagreement args.cap _ _ (sym c.in_ok-try_from.was ∙ c.try_from.ensures)
-    (sym c.in_ok-try_from-2.was ∙ c.try_from-2.ensures) (rw e at (sym c.cap_outside.ensures ∙ c.if-cap_outside.false)))
+    both_are args.agreement args.disagreement args.cap _ _ (sym c.in_ok-agreement.was ∙ c.try_from.ensures)
+    (sym c.in_ok-disagreement.was ∙ c.try_from-2.ensures) (cap_inside args.cap (omega arith) (omega arith))
