@@ -26,7 +26,7 @@ use strategy::Strategies;
 
 // What the call answers: a raw group was corrected, with so many records, pairs and overlapping pairs and
 // this growth of the counts; it was corrected before, with the counts of its trailer; or why it is refused.
-// Kept: the refusal inside the answer is the form that the interface is agreed in.
+// Kept: the refusal stands in the answer, as below.
 #[derive(Clone, Copy)]
 pub enum FiledAnswer {
     Corrected {
@@ -43,8 +43,8 @@ pub enum FiledAnswer {
 }
 
 // The answer, and the counts after the call.
-// Kept: the refusal inside the answer and the counts by value beside it are the form that the interface is
-// agreed in, for this call as for the pair call and the group call.
+// Kept: the refusal stands in the answer, and the counts beside it, as in the pair and the group call (docs/DECISIONS.md,
+// Forms); `filed_of` has it so.
 #[derive(Clone, Copy)]
 pub struct Filed {
     pub answer: FiledAnswer,
@@ -71,15 +71,12 @@ const SMALL: usize = 1024;
 const LARGE: usize = 65536;
 
 // Whether the small rooms take every record, each of which is a size of 4 bytes behind where its frame begins.
-// Kept: a table of fixed length and how many of its entries are in use, since no memory is taken for a group.
-fn small(begins: &[usize], n: usize) -> bool
-    requires { n < length begins.now }
-    ensures { IsTrue result ↔ Short begins.now n 1024 }
+fn small(frames: Frames<'_>) -> bool
+    requires { frames.count < length frames.begins.now }
+    ensures { IsTrue result ↔ Short frames.entry.begins.now frames.entry.count 1024 }
 {
-    begins[..n]
-        .iter()
-        .zip(begins[1..].iter())
-        .all(|(begin, end)| end.saturating_sub(*begin) <= SMALL + 4)
+    let begins = frames.begins;
+    (0..frames.count).all(|k| begins[k + 1].saturating_sub(begins[k]) <= SMALL + 4)
 }
 
 // The frames of a raw group corrected into `out`, front to back, in rooms for records of so many bytes.
@@ -118,7 +115,7 @@ fn write_frames(
     if large {
         return write_in::<LARGE>(frames, mate, &mut lead, w, out);
     }
-    if small(frames.begins, frames.count) {
+    if small(frames) {
         return write_in::<SMALL>(frames, mate, &mut lead, w, out);
     }
     write_frames(frames, mate, w, out, true)
@@ -182,7 +179,8 @@ fn correct_raw(
 }
 
 // A filed group whose n frames were cut: its trailer, and what that asks for.
-// Kept: the table and the count come by themselves and not as `Frames`: behind the frames stands the trailer, which is read here.
+// Kept: the table and the count come by themselves and not as `Frames`: behind the frames stands the trailer, which is
+// read here.
 fn correct_ended(
     filed: &[u8],
     begins: &[usize],

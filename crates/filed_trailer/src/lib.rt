@@ -76,6 +76,7 @@ pub fn read(s: &[u8], at: usize) -> Trailer
 }
 
 // Whether some count is not 0.
+// Kept: count by count, as the definition `above` has it.
 fn grown(g: CorrectionStats) -> bool
     ensures { result ≡ above 0 g }
 {
