@@ -20,7 +20,7 @@ use Rattle.strategy.specs.declared.Strategies.{Strategies}
 use Rattle.cigar.specs.declared.Cursor.{Cursor}
 use Rattle.cigar.specs.Operation.{read_sum, ref_sum, ops_of, ops_in}
 use Rattle.cigar.specs.Found.{off_at, base_on}
-use Rattle.cigar.specs.Passing.{cursor, rest_ops, cur_off, read_end, ref_end, advanced, Settled, Stands}
+use Rattle.cigar.specs.Passing.{cursor, cur_off, read_end, ref_end, advanced, Settled, Stands}
 use Rattle.cigar.proofs.PlaceLaws.{run_zero}
 use Rattle.cigar.proofs.SitsLaws.{base_off}
 use Rattle.cigar.proofs.CursorLaws.{cur_below, cur_in, cur_done, advance_same}
@@ -28,16 +28,10 @@ use Rattle.positions.specs.Step.{job, State}
 use Rattle.positions.specs.Treating.{steps, row}
 use Rattle.positions.proofs.StepLaws.{steps_append, steps_front, steps_length, steps_room, row_length}
 use Rattle.pair_merge.specs.Shared.{base_in, pairs, shared, merged, Walked}
+use Rattle.pair_merge.specs.Meeting.{Side, Ready, Skipped}
 use Rattle.pair_merge.proofs.PairLaws.{skip_to, none_left, take_row}
 
 -- ---- one of the two cursors: from position p on it stands for what the record has
-pub record Side (cig : List ℕ) (o : ℕ → Option ℕ) (p len e : ℕ) (c : Cursor) : Type 0 where
-  pub ahead : (t : ℕ) → p ≤ t → o t ≡ cur_off cig c t
-  pub reads : read_end cig c ≤ len
-  pub refs : ref_end cig c ≡ e
-  pub within : c.at ≤ length cig
-  pub done : c.left ≡ 0 → rest_ops cig c ≡ []
-
 pub side_start : (cig : List ℕ) (at r p count : ℕ) (c : Cursor) → read_sum (ops_of (drop at cig)) ≤ count → Settled cig (cursor at 0 r 0) c
     → Side cig (base_on count (ops_of (drop at cig)) r) p count (r + ref_sum (ops_of (drop at cig))) c
 unfolding cur_off
@@ -72,6 +66,73 @@ side_later cig o p p' len e c s h =
 
 pub side_stands : (cig : List ℕ) (o : ℕ → Option ℕ) (p len e : ℕ) (c : Cursor) → Side cig o p len e c → len ≤ 4294967296 → e ≤ 4294967296 → Stands cig c
 side_stands cig o p len e c s h k = record { within = s.within; reads = omega (arith, s.reads); refs = omega (arith, s.refs) }
+
+-- ---- two cursors that go on to the next position at which both have a base
+-- what a cursor stands for that stands for what another does
+side_then : (cig : List ℕ) (o : ℕ → Option ℕ) (p p' len e : ℕ) (c d : Cursor) → Side cig o p len e c → p ≤ p' → Side cig (cur_off cig c) p' (read_end cig c) (ref_end cig c) d → Side cig o p' len e d
+side_then cig o p p' len e c d s h n =
+    record {
+      ahead = λ t l. s.ahead t (omega arith) ∙ n.ahead t l;
+      reads = omega (arith, n.reads, s.reads);
+      refs = n.refs ∙ s.refs;
+      within = n.within;
+      done = n.done;
+    }
+
+skipped_at : {l l' m m' : List ℕ} {a b c d : Cursor} → l ≡ l' → m ≡ m' → Skipped l m a b c d → Skipped l' m' a b c d
+skipped_at {l' = l'} {m = m} {a = a} {b = b} {c = c} {d = d} e f s =
+    subst (λ (x : List ℕ). Skipped l' x a b c d) f (subst (λ (x : List ℕ). Skipped x m a b c d) e s)
+
+module _ (cig₁ cig₂ : List ℕ) (a b : Cursor) where
+  pub skipped_start : Ready cig₁ a → Ready cig₂ b → Skipped cig₁ cig₂ a b a b
+  skipped_start f g =
+      record {
+        side₁ = record { ahead = λ t l. refl; reads = omega arith; refs = refl; within = f.stands.within; done = f.done };
+        side₂ = record { ahead = λ t l. refl; reads = omega arith; refs = refl; within = g.stands.within; done = g.done };
+        up = omega arith;
+        on = omega arith;
+        apart = λ t lo hi. absurd (omega arith);
+      }
+
+  -- the first record's next base lies before the second's
+  pub skipped_first : (c d c' : Cursor) (n : ℕ) → Skipped cig₁ cig₂ a b c d → n ≤ c.left → c.position.0 + n ≤ d.position.0 → Settled cig₁ (advanced c n) c' → Skipped cig₁ cig₂ a b c' d
+  skipped_first c d c' n m hn hr s =
+      let up : c.position.0 + n ≤ c'.position.0 = s.kept.up in
+      let s1 = side_next cig₁ (cur_off cig₁ a) c.position.0 (c.position.0 + n) (read_end cig₁ a) (ref_end cig₁ a) n c c' m.side₁ hn (omega arith) (omega arith) s in
+      record {
+        side₁ = side_later cig₁ (cur_off cig₁ a) (c.position.0 + n) c'.position.0 (read_end cig₁ a) (ref_end cig₁ a) c' s1 up;
+        side₂ = side_later cig₂ (cur_off cig₂ b) c.position.0 c'.position.0 (read_end cig₂ b) (ref_end cig₂ b) d m.side₂ (omega arith);
+        up = omega (arith, m.up);
+        on = omega (arith, s.kept.on, m.on);
+        apart =
+            λ t lo hi.
+            ⊎_elim (λ l. m.apart t lo l)
+            (λ l.
+            ⊎_elim (λ k. inr (m.side₂.ahead t l ∙ cur_below cig₂ d t (omega arith)))
+            (λ k. inl (s1.ahead t k ∙ cur_below cig₁ c' t hi))
+            (lt_or_le t (c.position.0 + n)))
+            (lt_or_le t c.position.0);
+      }
+
+  -- the second record's next base lies before the first's
+  pub skipped_second : (c d d' : Cursor) (n : ℕ) → Skipped cig₁ cig₂ a b c d → n ≤ d.left → d.position.0 + n ≤ c.position.0 → Settled cig₂ (advanced d n) d' → Skipped cig₁ cig₂ a b c d'
+  skipped_second c d d' n m hn hr s =
+      record {
+        side₁ = m.side₁;
+        side₂ = side_next cig₂ (cur_off cig₂ b) c.position.0 c.position.0 (read_end cig₂ b) (ref_end cig₂ b) n d d' m.side₂ hn (omega arith) (omega arith) s;
+        up = m.up;
+        on = m.on;
+        apart = m.apart;
+      }
+
+-- a cursor that stands for the bases of one that stands in `cig` stands there as well
+pub goes_on : (cig : List ℕ) (a c : Cursor) (p : ℕ) → Ready cig a → Side cig (cur_off cig a) p (read_end cig a) (ref_end cig a) c → Stands cig c
+goes_on cig a c p f s = side_stands cig (cur_off cig a) p (read_end cig a) (ref_end cig a) c s f.stands.reads f.stands.refs
+
+-- and is nearer to the end after a base
+pub nearer : (cig : List ℕ) (a c c' : Cursor) (p n : ℕ) → Side cig (cur_off cig a) p (read_end cig a) (ref_end cig a) c → 0 < n → n ≤ c.left → Settled cig (advanced c n) c'
+    → ref_end cig a - c'.position.0 < ref_end cig a - c.position.0
+nearer cig a c c' p n s h k t = omega (arith, s.refs, t.kept.up)
 
 -- ---- the loop: what is left gives from here what the whole gives from the start
 module _ (v : Strategies) (y z : Layout) (r t : RefPos) (s₀ : State) where
@@ -134,45 +195,35 @@ module _ (v : Strategies) (y z : Layout) (r t : RefPos) (s₀ : State) where
         counted = omega (arith, ap length same, ap length start);
       }
 
-  -- the first record's next base lies before the second's
-  pub merging_first : (a b a' : Cursor) (met : ℕ) (s : State) (d : ℕ) → Merging a b met s → d ≤ a.left → a.position.0 + d ≤ b.position.0 → Settled cig₁ (advanced a d) a' → Merging a' b met s
-  merging_first a b a' met s d m hd hr sa =
-      let up : a.position.0 + d ≤ a'.position.0 = sa.kept.up in
-      let s1 = side_next cig₁ o₁ a.position.0 (a.position.0 + d) y.count e₁ d a a' m.side₁ hd (omega arith) (omega arith) sa in
-      let same : ahead a.position.0 ≡ ahead a'.position.0 =
-      skip_to o₁ o₂ e₁ a.position.0 a'.position.0 (omega arith)
-      (λ u lo hi.
-      ⊎_elim (λ l. inr (m.side₂.ahead u lo ∙ cur_below cig₂ b u (omega arith)))
-      (λ l. inl (s1.ahead u l ∙ cur_below cig₁ a' u hi))
-      (lt_or_le u (a.position.0 + d))) in
+  -- the cursors gone on to where both have a base
+  pub merging_skipped : (a b c d : Cursor) (met : ℕ) (s : State) → Merging a b met s → Skipped (take y.bases s.first) (take z.bases s.second) a b c d → Merging c d met s
+  merging_skipped a b c d met s m k' =
+      let k : Skipped cig₁ cig₂ a b c d = skipped_at m.front₁ m.front₂ k' in
+      let same : ahead a.position.0 ≡ ahead c.position.0 =
+      skip_to o₁ o₂ e₁ a.position.0 c.position.0 k.up
+      (λ u lo hi. ⊎_elim (λ x. inl (m.side₁.ahead u lo ∙ x)) (λ x. inr (m.side₂.ahead u lo ∙ x)) (k.apart u lo hi)) in
       record {
-        side₁ = side_later cig₁ o₁ (a.position.0 + d) a'.position.0 y.count e₁ a' s1 up;
-        side₂ = side_later cig₂ o₂ a.position.0 a'.position.0 z.count e₂ b m.side₂ (omega arith);
+        side₁ = side_then cig₁ o₁ a.position.0 c.position.0 y.count e₁ a c m.side₁ k.up k.side₁;
+        side₂ = side_then cig₂ o₂ a.position.0 c.position.0 z.count e₂ b d m.side₂ k.up k.side₂;
         first = m.first;
         second = m.second;
         front₁ = m.front₁;
         front₂ = m.front₂;
-        room = room_less s.stats _ _ (omega (arith, sa.kept.on)) m.room;
-        few = omega (arith, sa.kept.on, m.few);
-        left = later a.position.0 a'.position.0 met s same m.left;
+        room = room_less s.stats _ _ (omega (arith, k.on)) m.room;
+        few = omega (arith, k.on, m.few);
+        left = later a.position.0 c.position.0 met s same m.left;
         counted = omega (arith, ap length same, m.counted);
       }
 
-  -- the second record's next base lies before the first's
-  pub merging_second : (a b b' : Cursor) (met : ℕ) (s : State) (d : ℕ) → Merging a b met s → d ≤ b.left → b.position.0 + d ≤ a.position.0 → Settled cig₂ (advanced b d) b' → Merging a b' met s
-  merging_second a b b' met s d m hd hr sb =
-      record {
-        side₁ = m.side₁;
-        side₂ = side_next cig₂ o₂ a.position.0 a.position.0 z.count e₂ d b b' m.side₂ hd (omega arith) (omega arith) sb;
-        first = m.first;
-        second = m.second;
-        front₁ = m.front₁;
-        front₂ = m.front₂;
-        room = m.room;
-        few = m.few;
-        left = m.left;
-        counted = m.counted;
-      }
+  -- what going on asks
+  pub poised : (a b : Cursor) (met : ℕ) (s : State) → Merging a b met s → Lies y (length s₀.first) → Lies z (length s₀.second) → Walked y r s₀.first → Walked z t s₀.second
+      → (y.bases ≤ length s.first) × (z.bases ≤ length s.second) × Ready (take y.bases s.first) a × Ready (take z.bases s.second) b
+  poised a b met s m hy hz wy wz = (
+    omega (arith, hy.bases, hy.qualities, m.first),
+    omega (arith, hz.bases, hz.qualities, m.second),
+    rw m.front₁ (record { stands = side_stands cig₁ o₁ a.position.0 y.count e₁ a m.side₁ wy.small wy.refs; done = m.side₁.done }),
+    rw m.front₂ (record { stands = side_stands cig₂ o₂ a.position.0 z.count e₂ b m.side₂ wz.small wz.refs; done = m.side₂.done }),
+  )
 
   -- both at one position: a row of k shared positions lies ahead
   row_ahead : (a b : Cursor) (met : ℕ) (s : State) (k : ℕ) → Merging a b met s → k ≤ a.left → k ≤ b.left → a.position.0 ≡ b.position.0
@@ -276,9 +327,6 @@ module _ (v : Strategies) (y z : Layout) (r t : RefPos) (s₀ : State) where
 
   pub less₁ : (a a' : Cursor) (p d : ℕ) → Side cig₁ o₁ p y.count e₁ a → 0 < d → d ≤ a.left → Settled cig₁ (advanced a d) a' → e₁ - a'.position.0 < e₁ - a.position.0
   less₁ a a' p d s h k n = omega (arith, s.refs, n.kept.up)
-
-  pub less₂ : (b b' : Cursor) (p d : ℕ) → Side cig₂ o₂ p z.count e₂ b → 0 < d → d ≤ b.left → Settled cig₂ (advanced b d) b' → e₂ - b'.position.0 < e₂ - b.position.0
-  less₂ b b' p d s h k n = omega (arith, s.refs, n.kept.up)
 
 pub settled_at : {l m : List ℕ} {c d : Cursor} → l ≡ m → Settled l c d → Settled m c d
 settled_at {c = c} {d = d} e s = subst (λ (x : List ℕ). Settled x c d) e s
