@@ -78,14 +78,13 @@ fn same_name(x: &[u8], y: &[u8]) -> bool
 }
 
 // Enters the key of each record.
-// Kept: an index for `key`, as nothing is known of an entry that an `iter_mut` wrote; and a table of fixed length, since no
-// memory is taken for a group.
+// Kept: a table of fixed length, since no memory is taken for a group.
 fn enter_keys(frames: Frames, key: &mut [u64])
     requires { Tabled frames × (256 ≤ length key.old) }
     ensures { Keyed frames.entry.bytes.now key.new frames.entry.count }
 {
-    for k in 0..frames.count {
-        key[k] = key_of(frames.record(k));
+    for (k, slot) in key[..frames.count].iter_mut().enumerate() {
+        *slot = key_of(frames.record(k));
     }
 }
 
@@ -188,13 +187,13 @@ impl<'a> Search<'a> {
     }
 
     // Enters the mate of each record.
-    // Kept: an index for `mate`, as nothing is known of an entry that an `iter_mut` wrote; and a table of fixed length.
+    // Kept: a table of fixed length, since no memory is taken for a group.
     fn enter_mates(&self, mate: &mut [usize])
         requires { 256 ≤ length mate.old }
         ensures { Mated self.now.frames.bytes.now mate.new self.now.frames.count }
     {
-        for i in 0..self.frames.count {
-            mate[i] = match self.mate_of(i) {
+        for (i, slot) in mate[..self.frames.count].iter_mut().enumerate() {
+            *slot = match self.mate_of(i) {
                 Some(j) => j + 1,
                 None => 0,
             };

@@ -4,4 +4,4 @@ use Rattle.group_mates.proofs.TableLaws.{Entered}
 use Rattle.group_mates.proofs.Search.enter_mates.Given as goal
 
 abbrev pub invariant-loop-i : goal.invariant-loop-i
-invariant-loop-i l = Entered (mates_of l.self.frames.bytes.now l.self.frames.count) l.mate l.i
+invariant-loop-i l = Entered (mates_of l.self.frames.bytes.now l.self.frames.count) l.slot-items l.i
