@@ -22,8 +22,10 @@ pub struct Met {
 }
 
 // Two cursors at the next position at which both have a base, or where one of them has none left: the one that is behind
-// goes on, by so many bases as its run and the other let it.
+// goes on, by so many bases as its run and the other let it. It is a part of each caller: called, it takes 146 instructions
+// more a pair of W1.
 // Kept: a `while` over two cursors, of which one goes on in a turn; no iterator does.
+#[inline(always)]
 fn meeting(
     first: &[u8],
     second: &[u8],
