@@ -4,11 +4,19 @@
 
 ghost use Rattle.std.specs.Prelude.{◌≡◌, false, ◌<◌, ◌≤◌, ◌++◌, length, take, IfOk, OnOk};
 ghost use Rattle.std.specs.Io.KnownBytes.{Appends, Consumes, IsAtEnd, Keeps};
-ghost use Rattle.console.specs.Input.{Within};
+ghost use Rattle.console.specs.Input.{moved_of, Within};
 
 use std::env::{Env, FillError};
 use std::io;
 use std::io::{Cursor, Read, Write};
+
+// What a read with room for so many bytes was, by what it answered: it failed with that error, or it moved so many bytes,
+// none at the end.
+fn moved(got: io::Result<usize>, room: usize) -> io::Result<usize>
+    ensures { result ≡ moved_of got room }
+{
+    got.map(|n| n.min(room))
+}
 
 // Reads the input until it ends or the room is full, and answers how many bytes stand at the start of
 // the room. A read that fails is not the end: its error is the answer.
@@ -20,7 +28,8 @@ pub fn read_all<R: Read>(input: &mut R, room: &mut [u8]) -> io::Result<usize>
     let mut n = 0;
     // Kept: no `for` counts here: each turn goes on by as many bytes as the read moved.
     while n < room.len() {
-        let more = input.read(&mut room[n..])?;
+        let left = room.len() - n;
+        let more = moved(input.read(&mut room[n..]), left)?;
         if more == 0 {
             return Ok(n);
         }

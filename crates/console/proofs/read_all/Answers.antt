@@ -6,6 +6,7 @@ use Rattle.std.proofs.lemmas.List.{take-append-le}
 use Rattle.std.proofs.Math.Seq.{take-append-add}
 use lib.Seq.{length-take-le}
 use borrow.Rule.Slice.PartMut.{put_mid}
+use Rattle.console.proofs.ReadLaws.{handed}
 use Rattle.console.proofs.read_all.Goals as goal
 
 -- m bytes more stand behind the first n
@@ -25,10 +26,10 @@ further (Some x) (Some y) (Some z) xs ys p q = p ∙ ap (λ (t : List ℕ). xs +
 pub loop-n-preserved : goal.loop-n-preserved
 loop-n-preserved g c =
     let loop = c.loop-n in
-    let bound = c.in_ok-more.ensures.bound in
+    let read = handed c.read.result c.in_ok-more.more (length loop.room - loop.n) (g.R.Read.remaining loop.input) (g.R.Read.remaining c.read.new.self) c.read.new.buf c.in_ok-more.ensures (search rules) c.read.ensures.bound c.read.ensures.bytes in
     record {
       within = search rules;
       given =
-          rw (moved loop.room c.read.new.buf loop.n c.in_ok-more.more loop.invariant.within bound.0)
-          (further (g.R.Read.remaining c.args.input.now) (g.R.Read.remaining loop.input) (g.R.Read.remaining c.read.new.self) _ _ loop.invariant.given c.in_ok-more.ensures.bytes.0);
+          rw (moved loop.room c.read.new.buf loop.n c.in_ok-more.more loop.invariant.within read.0)
+          (further (g.R.Read.remaining c.args.input.now) (g.R.Read.remaining loop.input) (g.R.Read.remaining c.read.new.self) _ _ loop.invariant.given read.1);
     }
