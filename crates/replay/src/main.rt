@@ -19,30 +19,24 @@ struct Head {
 }
 
 impl Head {
-    // Reads the head of the next case.
+    // Reads the head of the next case, all of it at once.
     fn read<R: Read>(list: &mut R) -> io::Result<Head> {
+        let mut bytes = [0; 24];
+        list.read_exact(&mut bytes)?;
         Ok(Head {
-            agreement: read_number(list)?,
-            disagreement: read_number(list)?,
-            first: read_number(list)? as usize,
-            second: read_number(list)? as usize,
-            counts: read_number(list)? as usize,
-            answer: read_number(list)?,
+            agreement: fields::u32_at(&bytes, 0),
+            disagreement: fields::u32_at(&bytes, 4),
+            first: fields::u32_at(&bytes, 8) as usize,
+            second: fields::u32_at(&bytes, 12) as usize,
+            counts: fields::u32_at(&bytes, 16) as usize,
+            answer: fields::u32_at(&bytes, 20),
         })
     }
 }
 
-// Reads a number of the list.
-// Kept: group_cases has one like it; a crate for the two lines would say no less.
-fn read_number<R: Read>(list: &mut R) -> io::Result<u32> {
-    let mut number = [0; 4];
-    list.read_exact(&mut number)?;
-    Ok(u32::from_le_bytes(number))
-}
-
 // Rooms for the two records and the counts of a case, each for the longest record of the list.
 // Kept: rooms of fixed length, and the sizes in `Head`, since no memory is taken.
-#[derive(Clone, Copy)]
+#[derive(Drop)]
 struct Rooms {
     first: [u8; 66000],
     second: [u8; 66000],
@@ -66,6 +60,22 @@ impl Rooms {
         let second = read_front(list, self.second.get_mut(..head.second));
         let counts = read_front(list, self.counts.get_mut(..head.counts));
         first && second && counts
+    }
+
+    // Copies the fronts of other rooms, and no byte behind them: a case has some hundred bytes, and the rooms 198,000.
+    fn copy(&mut self, other: &Rooms, head: &Head) {
+        copy_front(
+            self.first.get_mut(..head.first),
+            other.first.get(..head.first),
+        );
+        copy_front(
+            self.second.get_mut(..head.second),
+            other.second.get(..head.second),
+        );
+        copy_front(
+            self.counts.get_mut(..head.counts),
+            other.counts.get(..head.counts),
+        );
     }
 
     // What the exported call answers on the fronts, where they are there.
@@ -100,11 +110,20 @@ fn read_front<R: Read>(list: &mut R, front: Option<&mut [u8]>) -> bool {
     }
 }
 
+// Copies a front to one of the same length, where both are there.
+fn copy_front(front: Option<&mut [u8]>, other: Option<&[u8]>) {
+    if let (Some(to), Some(from)) = (front, other) {
+        if to.len() == from.len() {
+            to.copy_from_slice(from);
+        }
+    }
+}
+
 // Whether the call on the case behind this head answers as stored and leaves what is stored: for an
 // overlap that follows in the list, and else it is what was given.
 fn agrees<R: Read>(list: &mut R, head: &Head, rooms: &mut Rooms, stored: &mut Rooms) -> bool {
     let given = rooms.read(list, head);
-    *stored = *rooms;
+    stored.copy(rooms, head);
     let left = head.answer != 1 || stored.read(list, head);
     let answered = rooms.call(head) == Some(head.answer);
     given && left && answered && rooms.agrees(stored, head)
