@@ -74,15 +74,16 @@ fn show(rt: &impl Print, size: usize, header: &Header) -> io::Result<()> {
     let mut room = [0; 65537];
     lay_name(&mut room);
     header.lay(&mut room);
-    let view = view::view_of(&room[..size.min(room.len())]);
+    let record = &room[..size.min(room.len())];
+    let view = view::view_of(record);
     print!(rt;
         "name length {} in {size} bytes: {}",
         header.name,
-        Viewed(view.refused())
+        Viewed(view::refused_of(record))
     )?;
     print!(rt;
         ", name '{}', flags {}",
-        str::from_utf8(view.name()).unwrap_or("?"),
+        str::from_utf8(view::name_of(record)).unwrap_or("?"),
         view.flags().0
     )?;
     print!(rt; ", reference {}, pos {}", view.ref_id(), view.pos())?;
