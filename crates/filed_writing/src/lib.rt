@@ -3,7 +3,7 @@
 // treated once, and other mates once for each of the two, so that bytes go out in order.
 #![tactic(auto)]
 
-ghost use Rattle.std.specs.Prelude.{◌≡◌, ℕ, ◌+◌, ◌-◌, ◌<◌, ◌≤◌, List, length, get_or};
+ghost use Rattle.std.specs.Prelude.{◌≡◌, ℕ, ◌+◌, ◌-◌, ◌<◌, ◌≤◌, List, length, get_or, cond};
 ghost use Rattle.stats.specs.Counts.{zeroed};
 ghost use Rattle.pair_judgement.specs.Ready.{Cleared};
 ghost use Rattle.group_frames.specs.Frame.{begin_of, record_of};
@@ -122,19 +122,13 @@ struct Rooms<'a> {
 }
 
 impl Rooms<'_> {
-    // What stands in the room for firsts. A function, since a field `&mut [u8]` of a struct behind `&mut` is read as a whole
-    // slice only so.
-    fn left(&self) -> &[u8]
-        ensures { result.now ≡ self.now.left.now }
+    // What stands in the room for lasts, or in that for firsts. A function, since a field `&mut [u8]` of a struct behind
+    // `&mut` is read as a whole slice only so.
+    // Kept: `last` says which of the two rooms is read; an enum of two would be no plainer.
+    fn room(&self, last: bool) -> &[u8]
+        ensures { result.now ≡ cond last self.now.right.now self.now.left.now }
     {
-        &*self.left
-    }
-
-    // What stands in the room for lasts; a function for the same reason.
-    fn right(&self) -> &[u8]
-        ensures { result.now ≡ self.now.right.now }
-    {
-        &*self.right
+        if last { &*self.right } else { &*self.left }
     }
 
     // What a pair adds, treated in the rooms unless it stands there.
@@ -176,10 +170,10 @@ impl Rooms<'_> {
         };
         let added = self.hold(frames, pair, w);
         if pair.first == k {
-            put_frame(frames, k, self.left(), out);
+            put_frame(frames, k, self.room(false), out);
             return added;
         }
-        put_frame(frames, k, self.right(), out);
+        put_frame(frames, k, self.room(true), out);
         no_pair()
     }
 }

@@ -1,4 +1,5 @@
 -- `filed_writing::Rooms::write` meets its contract. Assumes nothing.
+use Rattle.std.proofs.Common.{rules}
 use mathlib.Core.Path.{refl, ap}
 use native.Mathlib.Omega.{arith}
 use lib.ListN.{length}
@@ -33,14 +34,14 @@ hold-added-requires c = (c.requires.0, c.requires.1.pair _ c.in-Some.is, c.requi
 pub put_frame-requires-then-pair-k : goal.put_frame-requires-then-pair-k
 put_frame-requires-then-pair-k c =
     let below = c.requires.1.below in
-    put_fits _ _ _ c.requires.0 _ below _ _ (omega (arith, ap length c.left.ensures, c.hold-added.ensures.2.0, c.requires.2.0 _ below)) c.requires.4.1
+    put_fits _ _ _ c.requires.0 _ below _ _ (omega (arith, ap length c.room.ensures, c.hold-added.ensures.2.0, c.requires.2.0 _ below)) c.requires.4.1
 
 pub returns-then-pair-k : goal.returns-then-pair-k
 returns-then-pair-k c =
     let t = c.requires.0 in
     let h = c.requires.1 in
     let out = c.requires.4 in
-    let put = rw c.left.ensures at c.put_frame-then-pair-k.ensures in
+    let put = rw c.room.ensures at c.put_frame-then-pair-k.ensures in
     let held = c.hold-added.ensures in
     let due = first_due c.args.w _ _ t.fit _ _ h _ c.in-Some.is _ _ _ held.0 c.if-pair-k.true in (
       record {
@@ -55,14 +56,14 @@ returns-then-pair-k c =
 pub put_frame-requires-2 : goal.put_frame-requires-2
 put_frame-requires-2 c =
     let below = c.requires.1.below in
-    put_fits _ _ _ c.requires.0 _ below _ _ (omega (arith, ap length c.right.ensures, c.hold-added.ensures.2.1, c.requires.2.1 _ below)) c.requires.4.1
+    put_fits _ _ _ c.requires.0 _ below _ _ (search (rules, c.hold-added.ensures.2, c.requires.2.0 _ below, c.requires.2.1 _ below)) c.requires.4.1
 
 pub returns : goal.returns
 returns c =
     let t = c.requires.0 in
     let h = c.requires.1 in
     let out = c.requires.4 in
-    let put = rw c.right.ensures at c.put_frame-2.ensures in
+    let put = rw c.room-2.ensures at c.put_frame-2.ensures in
     let held = c.hold-added.ensures in
     let due = last_due c.args.w _ _ t.fit _ _ h _ c.in-Some.is _ _ _ held.0 c.if-pair-k.false in (
       record {
