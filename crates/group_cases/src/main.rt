@@ -14,7 +14,6 @@ struct Rooms {
 }
 
 // Reads a size.
-// Kept: replay has one like it; a crate for the two lines would say no less.
 fn read_size<R: Read>(cases: &mut R) -> io::Result<usize> {
     let mut size = [0; 4];
     cases.read_exact(&mut size)?;
