@@ -30,17 +30,17 @@ for path, name in re.findall(r'`([\w/]+\.antt)#([^`]+)`', page):
     if text is None or not re.search(declared, text):
         faults.append(f'{path}#{name}: no such definition or theorem')
 
-def within(owner):
-    """The sources that a function's name says: those of a crate, or all impls of a type."""
-    if os.path.isdir(f'crates/{owner}'):
+def within(crate, owner):
+    """The sources that a function's name says: those of a crate, or all impls of a type, of one crate where it is named."""
+    if not crate and os.path.isdir(f'crates/{owner}'):
         return sources(owner)
-    every = '\n'.join(filter(None, map(sources, sorted(os.listdir('crates')))))
+    every = '\n'.join(filter(None, map(sources, [crate] if crate else sorted(os.listdir('crates')))))
     return '\n'.join(re.findall(r'(?ms)^impl\b[^\n{]*\b' + owner + r'\b[^\n{]* \{$.*?^\}$', every))
 
 
-for owner, name in re.findall(r'`(\w+)::(\w+)`', page):
+for crate, owner, name in re.findall(r'`(?:(\w+)::)?(\w+)::(\w+)`', page):
     checked += 1
-    text = within(owner)
+    text = within(crate, owner)
     found = text and re.search(r'fn ' + name + r'\b(.*?)\n? *\{\n', text, re.S)
     if not found:
         faults.append(f'{owner}::{name}: no such function')
